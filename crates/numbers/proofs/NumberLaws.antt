@@ -1,0 +1,134 @@
+-- The laws of numbers in bytes, each once over the width. Assumes nothing.
+use mathlib.Core.Path.{_≡_, refl, sym, ap, _∙_}
+use mathlib.Core.List.{List, [], _∷_, _++_}
+use Prim.Native.Nat.{ℕ, zero, suc, _+_, _-_, _*_, _/_, _%_, _^_, _≤_, _<_}
+use native.Mathlib.Nat.{zero-add, add-zero, suc-add, one-mul, mul-assoc, pow-zero, pow-suc, pow-succ', div-one, mod-eq-of-lt, div-div-eq-div-mul, div-lt-iff-lt-mul, pow-le-pow-right, one-le-pow, lt-of-lt-of-le}
+use native.Mathlib.Omega.{arith}
+use lib.Arith.{mod-mul}
+use lib.Dec.{lit<}
+use lib.ListN.{length, take, drop, getD, set, length-take, length-drop, take-append-drop}
+use lib.Seq.{drop-cons, take-all, take-take, length-take-le}
+use Rattle.numbers.specs.Lists.{Bytes, part, splice}
+use Rattle.numbers.specs.Numbers.{leValue, leBytes}
+use Rattle.numbers.proofs.ListLaws.{length-part, part-add, bytes-part}
+use Rattle.numbers.proofs.SpliceLaws.{wrote, put-put, splice-over, set-is-splice}
+
+pub length-leBytes : (w n : ℕ) → length (leBytes w n) ≡ w
+unfolding leBytes
+length-leBytes zero n = refl
+length-leBytes (suc w) n = ap suc (length-leBytes w (n / 256))
+
+pub bytes-leBytes : (w n : ℕ) → Bytes (leBytes w n)
+unfolding leBytes
+bytes-leBytes zero n i = omega arith
+bytes-leBytes (suc w) n zero = omega arith
+bytes-leBytes (suc w) n (suc i) = bytes-leBytes w (n / 256) i
+
+pub leValue-leBytes : (w n : ℕ) → n < 256 ^ w → leValue (leBytes w n) ≡ n
+unfolding leValue leBytes
+leValue-leBytes zero n h = let p : 256 ^ 0 ≡ 1 = pow-zero 256 in omega arith
+leValue-leBytes (suc w) n h =
+    let small : n / 256 < 256 ^ w = div-lt-iff-lt-mul (lit< tt) .1 (rw pow-suc at h) in
+    let ih : leValue (leBytes w (n / 256)) ≡ n / 256 = leValue-leBytes w (n / 256) small in
+    omega arith
+
+pub leBytes-leValue : (bs : List ℕ) → Bytes bs → leBytes (length bs) (leValue bs) ≡ bs
+unfolding leValue leBytes
+leBytes-leValue [] h = refl
+leBytes-leValue (b ∷ bs) h =
+    let small : b < 256 = h 0 in
+    let first : (b + 256 * leValue bs) % 256 ≡ b = omega arith in
+    let others : (b + 256 * leValue bs) / 256 ≡ leValue bs = omega arith in
+    rw (first, others) (ap (_∷_ b) (leBytes-leValue bs (λ i. h (suc i))))
+
+pub leValue-bound : (bs : List ℕ) → Bytes bs → leValue bs < 256 ^ length bs
+unfolding leValue
+leValue-bound [] h = let p : 256 ^ 0 ≡ 1 = pow-zero 256 in omega arith
+leValue-bound (b ∷ bs) h =
+    let small : b < 256 = h 0 in
+    let ih : leValue bs < 256 ^ length bs = leValue-bound bs (λ i. h (suc i)) in
+    rw pow-succ' (omega arith)
+
+-- ---- a number that falls into two at any width
+pub leValue-append : (xs ys : List ℕ) → leValue (xs ++ ys) ≡ leValue xs + 256 ^ length xs * leValue ys
+unfolding leValue
+leValue-append [] ys = rw (pow-zero, one-mul, zero-add)
+leValue-append (x ∷ xs) ys =
+    let ih : leValue (xs ++ ys) ≡ leValue xs + 256 ^ length xs * leValue ys = leValue-append xs ys in
+    rw (ih, pow-succ', mul-assoc) (omega arith)
+
+pub leBytes-add : (m n v : ℕ) → leBytes (m + n) v ≡ leBytes m v ++ leBytes n (v / 256 ^ m)
+unfolding leBytes
+leBytes-add zero n v = rw (zero-add, pow-zero, div-one)
+leBytes-add (suc m) n v =
+    rw (suc-add, pow-succ', ← div-div-eq-div-mul) (ap (_∷_ (v % 256)) (leBytes-add m n (v / 256)))
+
+-- what stands above the width is left out
+pub leBytes-mod : (w v : ℕ) → leBytes w (v % 256 ^ w) ≡ leBytes w v
+unfolding leBytes
+leBytes-mod zero v = refl
+leBytes-mod (suc w) v =
+    let e : v % 256 ^ suc w ≡ (v / 256 % 256 ^ w) * 256 + v % 256 = rw pow-suc (mod-mul v (one-le-pow w 256 (lit< tt)) (lit< tt)) in
+    let first : v % 256 ^ suc w % 256 ≡ v % 256 = omega arith in
+    let others : v % 256 ^ suc w / 256 ≡ v / 256 % 256 ^ w = omega arith in
+    rw (first, others) (ap (_∷_ (v % 256)) (leBytes-mod w (v / 256)))
+
+-- ---- one byte
+pub leValue-one : (s : List ℕ) (at : ℕ) → at < length s → leValue (part s at 1) ≡ getD s at 0
+unfolding leValue
+leValue-one s at h = ap (λ (r : List ℕ). leValue (take 1 r)) (drop-cons s at 0 h) ∙ add-zero (getD s at 0)
+
+pub set-is-leBytes : (d : List ℕ) (at v : ℕ) → at < length d → v < 256 → set d at v ≡ splice d at (leBytes 1 v)
+unfolding leBytes
+set-is-leBytes d at v h small = set-is-splice d at v h ∙ ap (λ (b : ℕ). splice d at (b ∷ [])) (sym (mod-eq-of-lt small))
+
+-- ---- read and written by halves, at a place
+pub leValue-halves : (s : List ℕ) (at m n : ℕ) → at + m ≤ length s
+    → leValue (part s at (m + n)) ≡ leValue (part s at m) + 256 ^ m * leValue (part s (at + m) n)
+leValue-halves s at m n h =
+    ap leValue (part-add s at m n)
+    ∙ leValue-append (part s at m) (part s (at + m) n)
+    ∙ ap (λ (k : ℕ). leValue (part s at m) + 256 ^ k * leValue (part s (at + m) n)) (length-part s at m h)
+
+pub splice-halves : (d : List ℕ) (at m n v : ℕ) → at ≤ length d
+    → splice (splice d at (leBytes m (v % 256 ^ m))) (at + m) (leBytes n (v / 256 ^ m)) ≡ splice d at (leBytes (m + n) v)
+splice-halves d at m n v h =
+    put-put h (wrote (length-leBytes m v) (ap (splice d at) (leBytes-mod m v))) (wrote (length-leBytes n (v / 256 ^ m)) refl) .is
+    ∙ ap (splice d at) (sym (leBytes-add m n v))
+
+-- a store and then the bytes above it
+pub splice-step : (d : List ℕ) (at n v : ℕ) → at < length d
+    → splice (set d at (v % 256)) (at + 1) (leBytes n (v / 256)) ≡ splice d at (leBytes (1 + n) v)
+splice-step d at n v h =
+    let inside : at ≤ length d = omega arith in
+    let small : v % 256 < 256 = omega arith in
+    ap (λ (e : List ℕ). splice e (at + 1) (leBytes n (v / 256))) (set-is-leBytes d at (v % 256) h small)
+    ∙ splice-halves d at 1 n v inside
+
+-- a number in at most w bytes is below 256 ^ w
+pub leValue-part-bound : (s : List ℕ) (at n w : ℕ) → Bytes s → n ≤ w → leValue (part s at n) < 256 ^ w
+leValue-part-bound s at n w h k =
+    let short : length (part s at n) ≤ w = simp (length-take, length-drop) (omega arith) in
+    lt-of-lt-of-le (leValue-bound (part s at n) (bytes-part s at n h)) (pow-le-pow-right (lit< tt) short)
+
+-- ---- bytes moved as a number
+pub leBytes-part : (s : List ℕ) (at w : ℕ) → Bytes s → at + w ≤ length s → leBytes w (leValue (part s at w)) ≡ part s at w
+leBytes-part s at w h inside =
+    ap (λ (k : ℕ). leBytes k (leValue (part s at w))) (sym (length-part s at w inside))
+    ∙ leBytes-leValue (part s at w) (bytes-part s at w h)
+
+-- the first w bytes of s and its last w, moved as numbers, are all of s if it has no more than twice w
+pub splice-ends : (d : List ℕ) (at : ℕ) (s : List ℕ) (w : ℕ) → Bytes s → w ≤ length s → length s ≤ w + w → at + length s ≤ length d
+    → splice (splice d at (leBytes w (leValue (part s 0 w)))) (at + (length s - w)) (leBytes w (leValue (part s (length s - w) w)))
+    ≡ splice d at s
+splice-ends d at s w h low high inside =
+    let k : ℕ = length s - w in
+    let first : leBytes w (leValue (part s 0 w)) ≡ take w s = leBytes-part s 0 w h (omega arith) in
+    let whole : take w (drop k s) ≡ drop k s = take-all w (drop k s) (simp length-drop (omega arith)) in
+    let last : leBytes w (leValue (part s k w)) ≡ drop k s = leBytes-part s k w h (omega arith) ∙ whole in
+    let size : length (take w s) ≡ w = length-take-le w s low in
+    let size-last : length (drop k s) ≡ w = simp length-drop (omega arith) in
+    rw (first, last)
+    (splice-over d at (take w s) k (drop k s) (omega arith) (omega arith) (omega arith)
+    ∙ ap (λ (r : List ℕ). splice d at (r ++ drop k s)) (take-take k w s (omega arith))
+    ∙ ap (splice d at) (take-append-drop k s))

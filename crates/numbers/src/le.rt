@@ -1,0 +1,133 @@
+// Numbers in bytes, least significant byte first, read and written at a place of a slice. A width
+// of two, four or eight is two halves, which the compiler joins into one load or one store.
+// The caller sees to it that the bytes lie within the slice.
+ghost use mathlib.Core.Path.{_≡_};
+ghost use Prim.Native.Nat.{_+_, _≤_};
+ghost use lib.ListN.{length};
+ghost use Rattle.numbers.specs.Lists.{part, splice};
+ghost use Rattle.numbers.specs.Numbers.{leValue, leBytes};
+
+// The number in one, two, four or eight bytes from place at on.
+pub fn get1(s: &[u8], at: usize) -> u8
+    requires { ⌜ at + 1 ≤ length (now s) ⌝ }
+    ensures { λ r. ⌜ r ≡ leValue (part (now (s .entry)) at 1) ⌝ }
+{
+    s[at]
+}
+
+pub fn get2(s: &[u8], at: usize) -> u16
+    requires { ⌜ at + 2 ≤ length (now s) ⌝ }
+    ensures { λ r. ⌜ r ≡ leValue (part (now (s .entry)) at 2) ⌝ }
+{
+    let low = get1(s, at) as u16;
+    let high = get1(s, at + 1) as u16;
+    low + 256 * high
+}
+
+pub fn get4(s: &[u8], at: usize) -> u32
+    requires { ⌜ at + 4 ≤ length (now s) ⌝ }
+    ensures { λ r. ⌜ r ≡ leValue (part (now (s .entry)) at 4) ⌝ }
+{
+    let low = get2(s, at) as u32;
+    let high = get2(s, at + 2) as u32;
+    low + 65536 * high
+}
+
+pub fn get8(s: &[u8], at: usize) -> u64
+    requires { ⌜ at + 8 ≤ length (now s) ⌝ }
+    ensures { λ r. ⌜ r ≡ leValue (part (now (s .entry)) at 8) ⌝ }
+{
+    let low = get4(s, at) as u64;
+    let high = get4(s, at + 4) as u64;
+    low + 4294967296 * high
+}
+
+// A width that no tree above has: byte by byte, the most significant first.
+fn get_each(s: &[u8], at: usize, width: usize) -> u64
+    requires { ⌜ (width ≤ 8) × (at + width ≤ length (now s)) ⌝ }
+    ensures { λ r. ⌜ r ≡ leValue (part (now (s .entry)) at width) ⌝ }
+{
+    let mut left = width;
+    let mut value: u64 = 0;
+    while 0 < left {
+        left = left - 1;
+        value = get1(s, at + left) as u64 + 256 * value;
+    }
+    value
+}
+
+// The number in so many bytes, eight at most.
+pub fn get(s: &[u8], at: usize, width: usize) -> u64
+    requires { ⌜ (width ≤ 8) × (at + width ≤ length (now s)) ⌝ }
+    ensures { λ r. ⌜ r ≡ leValue (part (now (s .entry)) at width) ⌝ }
+{
+    match width {
+        1 => get1(s, at) as u64,
+        2 => get2(s, at) as u64,
+        4 => get4(s, at) as u64,
+        8 => get8(s, at),
+        _ => get_each(s, at, width),
+    }
+}
+
+// A number into one, two, four or eight bytes from place at on; no other byte is altered.
+pub fn put1(out: &mut [u8], at: usize, value: u8)
+    requires { ⌜ at + 1 ≤ length (now out) ⌝ }
+    ensures { λ _. ⌜ now (out .exit) ≡ splice (now (out .entry)) at (leBytes 1 value) ⌝ }
+{
+    out[at] = value;
+}
+
+pub fn put2(out: &mut [u8], at: usize, value: u16)
+    requires { ⌜ at + 2 ≤ length (now out) ⌝ }
+    ensures { λ _. ⌜ now (out .exit) ≡ splice (now (out .entry)) at (leBytes 2 value) ⌝ }
+{
+    put1(out, at, (value % 256) as u8);
+    put1(out, at + 1, (value / 256) as u8);
+}
+
+pub fn put4(out: &mut [u8], at: usize, value: u32)
+    requires { ⌜ at + 4 ≤ length (now out) ⌝ }
+    ensures { λ _. ⌜ now (out .exit) ≡ splice (now (out .entry)) at (leBytes 4 value) ⌝ }
+{
+    put2(out, at, (value % 65536) as u16);
+    put2(out, at + 2, (value / 65536) as u16);
+}
+
+pub fn put8(out: &mut [u8], at: usize, value: u64)
+    requires { ⌜ at + 8 ≤ length (now out) ⌝ }
+    ensures { λ _. ⌜ now (out .exit) ≡ splice (now (out .entry)) at (leBytes 8 value) ⌝ }
+{
+    put4(out, at, (value % 4294967296) as u32);
+    put4(out, at + 4, (value / 4294967296) as u32);
+}
+
+// A width that no tree above has: byte by byte, the least significant first.
+fn put_each(out: &mut [u8], at: usize, width: usize, value: u64)
+    requires { ⌜ at + width ≤ length (now out) ⌝ }
+    ensures { λ _. ⌜ now (out .exit) ≡ splice (now (out .entry)) at (leBytes width value) ⌝ }
+{
+    let mut to = at;
+    let mut left = width;
+    let mut rest = value;
+    while 0 < left {
+        out[to] = (rest % 256) as u8;
+        to = to + 1;
+        left = left - 1;
+        rest = rest / 256;
+    }
+}
+
+// A number into so many bytes: zeros above it, and without what does not fit.
+pub fn put(out: &mut [u8], at: usize, width: usize, value: u64)
+    requires { ⌜ at + width ≤ length (now out) ⌝ }
+    ensures { λ _. ⌜ now (out .exit) ≡ splice (now (out .entry)) at (leBytes width value) ⌝ }
+{
+    match width {
+        1 => put1(out, at, (value % 256) as u8),
+        2 => put2(out, at, (value % 65536) as u16),
+        4 => put4(out, at, (value % 4294967296) as u32),
+        8 => put8(out, at, value),
+        _ => put_each(out, at, width, value),
+    }
+}
