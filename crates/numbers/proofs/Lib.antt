@@ -1,3 +1,6 @@
 pub mod ListLaws
 pub mod SpliceLaws
 pub mod NumberLaws
+pub mod TableLaws
+pub mod TextLaws
+pub mod GrammarLaws

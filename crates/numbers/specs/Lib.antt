@@ -1,2 +1,5 @@
 pub mod Lists
 pub mod Numbers
+pub mod Text
+pub mod Grammar
+pub mod Inner

@@ -1,0 +1,131 @@
+-- `utf8` holds exactly of the octets of RFC 3629's grammar. Assumes nothing.
+use mathlib.Core.Path.{_≡_, refl, sym, ap, subst, _∙_}
+use mathlib.Core.Bool.{Bool, true, false, cond, _&&_, and-false}
+use mathlib.Core.List.{List, [], _∷_, _++_, List·Memᴰ, List·Memᴰ·head, List·Memᴰ·tail}
+use Prim.Native.Nat.{ℕ, suc, _≤_, _<_}
+use native.Mathlib.Omega.{arith}
+use borrow.Author.Tests.{lt-leb}
+use mir.Facts.{and-yes, yes-and}
+use lib.Dec.{T, leb, ltb, leb→le, ltb→lt}
+use lib.Ieee.Bits.{is-true}
+use Rattle.numbers.specs.Grammar.Lies.{all, next}
+use Rattle.numbers.specs.Grammar.Octets.{empty, char}
+use Rattle.numbers.specs.Grammar.{Lies, Octets}
+use Rattle.numbers.specs.Text.{Range, Line, within, nothing, lines, classIn, asksIn, classOf, asks, utf8From, utf8}
+
+-- ---- text is octets
+
+-- bytes behind a lead byte b, that with it make a character of one of the lines
+record Led (ls : List Line) (b : ℕ) (c : List ℕ) : Type 0 where
+  of : Line
+  among : List·Memᴰ of ls
+  lies : Lies (of .lead ∷ of .behind) (b ∷ c)
+
+none-lies : {c : List ℕ} → Lies (nothing ∷ []) c → ⊥
+none-lies (next {b = b} t h) =
+    let p : T (leb 1 b) × T (leb b 0) = and-yes (leb 1 b) (leb b 0) t in
+    let low : 1 ≤ b = leb→le 1 b (p .0) in
+    let high : b ≤ 0 = leb→le b 0 (p .1) in
+    omega arith
+
+led-here : (l : Line) (ls : List Line) (b : ℕ) (c : List ℕ) (t : Bool) → within (l .lead) b ≡ t
+    → (Lies (asksIn ls (classIn ls b)) c → Led ls b c)
+    → Lies (asksIn (l ∷ ls) (cond t 0 (suc (classIn ls b)))) c → Led (l ∷ ls) b c
+unfolding asksIn
+led-here l ls b c true e further h =
+    record { of = l; among = List·Memᴰ·head refl; lies = next (subst T (sym e) tt) h }
+led-here l ls b c false e further h =
+    let q = further h in
+    record { of = q .of; among = List·Memᴰ·tail (q .among); lies = q .lies }
+
+led : (ls : List Line) (b : ℕ) (c : List ℕ) → Lies (asksIn ls (classIn ls b)) c → Led ls b c
+unfolding asksIn classIn
+led [] b c h = absurd (none-lies h)
+led (l ∷ ls) b c h = led-here l ls b c (within (l .lead) b) refl (led ls b c) h
+
+-- text with ranges given falls into bytes that lie in them, and octets
+record Falls (rs : List Range) (s : List ℕ) : Type 0 where
+  first : List ℕ
+  rest : List ℕ
+  is : s ≡ first ++ rest
+  lies : Lies rs first
+  octets : Octets rest
+
+falls : (rs : List Range) (s : List ℕ) → T (utf8From rs s) → Falls rs s
+unfolding utf8From asks classOf
+falls [] [] h = record { first = []; rest = []; is = refl; lies = all; octets = empty }
+falls [] (b ∷ s) h =
+    let p = falls (asks (classOf b)) s h in
+    let q = led lines b (p .first) (p .lies) in
+    record {
+      first = [];
+      rest = b ∷ s;
+      is = refl;
+      lies = all;
+      octets = char (q .of) (q .among) (q .lies) (p .octets) (ap (_∷_ b) (p .is));
+    }
+falls (r ∷ rs) [] h = absurd h
+falls (r ∷ rs) (b ∷ s) h =
+    let t = and-yes (within r b) (utf8From rs s) h in
+    let p = falls rs s (t .1) in
+    record {
+      first = b ∷ p .first;
+      rest = p .rest;
+      is = ap (_∷_ b) (p .is);
+      lies = next (t .0) (p .lies);
+      octets = p .octets;
+    }
+
+nothing-first : {c : List ℕ} → Lies [] c → c ≡ []
+nothing-first all = refl
+
+pub utf8-octets : (s : List ℕ) → T (utf8 s) → Octets s
+unfolding utf8
+utf8-octets s h =
+    let p = falls [] s h in
+    subst Octets (sym (p .is ∙ ap (λ (c : List ℕ). c ++ p .rest) (nothing-first (p .lies)))) (p .octets)
+
+-- ---- octets are text
+
+goes-on : {rs : List Range} {c : List ℕ} (t : List ℕ) → Lies rs c → T (utf8From [] t) → T (utf8From rs (c ++ t))
+unfolding utf8From
+goes-on t all h = h
+goes-on t (next {r = r} {rs = rs} {b = b} {s = s} w l) h = yes-and (within r b) (utf8From rs (s ++ t)) w (goes-on t l h)
+
+-- each lead range lies above those of the lines before
+above : Range → List Line → Bool
+above r [] = true
+above r (l ∷ ls) = ltb (r .high) (l .lead .low) && above r ls
+
+ascending : List Line → Bool
+unfolding above
+ascending [] = true
+ascending (l ∷ ls) = above (l .lead) ls && ascending ls
+
+below : (r : Range) (l : Line) {ls : List Line} → List·Memᴰ l ls → T (above r ls) → r .high < l .lead .low
+unfolding above
+below r l (List·Memᴰ·head {x = x} {xs = xs} e) h =
+    subst (λ (m : Line). r .high < m .lead .low) (sym e) (ltb→lt _ _ (and-yes (ltb (r .high) (x .lead .low)) (above r xs) h .0))
+below r l (List·Memᴰ·tail {x = x} {xs = xs} m) h = below r l m (and-yes (ltb (r .high) (x .lead .low)) (above r xs) h .1)
+
+-- what the class of b asks for is what stands behind b's lead range
+behind-is : (b : ℕ) (l : Line) {ls : List Line} → List·Memᴰ l ls → T (ascending ls) → T (within (l .lead) b)
+    → asksIn ls (classIn ls b) ≡ l .behind
+unfolding asksIn classIn ascending
+behind-is b l (List·Memᴰ·head {x = x} {xs = xs} e) h w =
+    ap (λ (t : Bool). asksIn (x ∷ xs) (cond t 0 (suc (classIn xs b)))) (ap (λ (m : Line). within (m .lead) b) (sym e) ∙ is-true (within (l .lead) b) w)
+    ∙ ap (λ (m : Line). m .behind) (sym e)
+behind-is b l (List·Memᴰ·tail {x = x} {xs = xs} m) h w =
+    let p = and-yes (above (x .lead) xs) (ascending xs) h in
+    let under : x .lead .high < l .lead .low = below (x .lead) l m (p .0) in
+    let over : l .lead .low ≤ b = leb→le _ _ (and-yes (leb (l .lead .low) b) (leb b (l .lead .high)) w .0) in
+    let past : leb b (x .lead .high) ≡ false = lt-leb b (x .lead .high) (omega arith) in
+    ap (λ (t : Bool). asksIn (x ∷ xs) (cond t 0 (suc (classIn xs b)))) (ap (λ (t : Bool). leb (x .lead .low) b && t) past ∙ and-false (leb (x .lead .low) b))
+    ∙ behind-is b l m (p .1) w
+
+pub octets-utf8 : {s : List ℕ} → Octets s → T (utf8 s)
+unfolding utf8 utf8From asks classOf ascending
+octets-utf8 empty = tt
+octets-utf8 (char {t = t} l m (next {b = b} {s = c} w h) o e) =
+    subst (λ (r : List ℕ). T (utf8From [] r)) (sym e)
+    (subst (λ (rs : List Range). T (utf8From rs (c ++ t))) (sym (behind-is b l m tt w)) (goes-on t h (octets-utf8 o)))
