@@ -4,3 +4,4 @@ pub mod NumberLaws
 pub mod TableLaws
 pub mod TextLaws
 pub mod GrammarLaws
+pub mod Rules
