@@ -1,7 +1,6 @@
 // Slices of 0 to 34 bytes, copied between two bytes that stay.
 ghost use Prim.Native.Nat.{_≤_};
 ghost use lib.ListN.{length};
-use crate::print;
 use numbers::splice::copy;
 
 fn line(s: &[u8])

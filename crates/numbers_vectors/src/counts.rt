@@ -1,7 +1,6 @@
 // All strings of one, two and three bytes: how many are text, and on how many the verdict differs
 // from the lines of RFC 3629, which stand here once more, as plain comparisons.
 ghost use Prim.Native.Nat.{_+_, _^_, _≤_, _<_};
-use crate::print;
 use numbers::text::is_utf8;
 
 fn from_to(low: u8, b: u8, high: u8) -> bool {
@@ -86,14 +85,10 @@ fn line(n: usize, strings: usize)
     requires { ⌜ (n ≤ 3) × (strings ≤ 16777216) ⌝ }
 {
     let t = count_all(n, strings);
-    print::number(n as u64);
-    print::text(b" bytes: ");
-    print::number(t.text as u64);
-    print::text(b" of ");
-    print::number(strings as u64);
-    print::text(b" strings are text, ");
-    print::number(t.differ as u64);
-    print::text(b" verdicts differ\n");
+    print::count(n as u64, b" bytes: ");
+    print::count(t.text as u64, b" of ");
+    print::count(strings as u64, b" strings are text, ");
+    print::count(t.differ as u64, b" verdicts differ\n");
 }
 
 pub(crate) fn list() {

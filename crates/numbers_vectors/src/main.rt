@@ -3,7 +3,6 @@
 // makes `stdin` and `stdout`, from Python's own decoder and integers.
 mod copies;
 mod counts;
-mod print;
 mod strings;
 mod widths;
 

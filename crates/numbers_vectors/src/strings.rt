@@ -1,6 +1,5 @@
 // Strings from standard input, each behind a byte that counts its bytes: in hexadecimal, and
 // whether it is text.
-use crate::print;
 use libc::STDIN_FILENO;
 use numbers::text::is_utf8;
 

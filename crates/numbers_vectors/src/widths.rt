@@ -1,17 +1,13 @@
 // Numbers at every width from 0 to 8: what is written between two bytes that stay, and what is read
 // back. At 1, 2, 4 and 8 these are the trees of halves.
 ghost use Prim.Native.Nat.{_≤_};
-use crate::print;
 use numbers::le;
 
 fn line(width: u64, value: u64, buffer: &[u8], back: u64) {
-    print::number(width);
-    print::text(b" ");
-    print::number(value);
-    print::text(b": ");
+    print::count(width, b" ");
+    print::count(value, b": ");
     print::bytes(buffer);
-    print::number(back);
-    print::text(b"\n");
+    print::count(back, b"\n");
 }
 
 fn at_width(width: usize, value: u64)

@@ -1,10 +1,10 @@
--- `numbers_vectors::print::bytes` is safe and ends.
+-- `print::bytes` is safe and ends.
 -- Assumes nothing.
 use Prim.Native.Nat.{_-_, _≤_}
 use borrow.Author.Needs.{needs}
 use lib.ListN.{length}
-use Rattle.numbers_vectors.proofs.print.bytes.Statement.{statement}
-use Rattle.numbers_vectors.proofs.print.bytes.Tie as tie
+use Rattle.print.proofs.bytes.Statement.{statement}
+use Rattle.print.proofs.bytes.Tie as tie
 
 abbrev Inv-loop : tie.InvT-loop
 Inv-loop s i₀ i = i ≤ length s
