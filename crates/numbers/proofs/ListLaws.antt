@@ -1,10 +1,10 @@
 -- Laws on lists that every crate above cites: the rest of a slice, parts, and lists of bytes. Assumes nothing.
-use mathlib.Core.Path.{_≡_, sym, ap, _∙_}
+use mathlib.Core.Path.{_≡_, refl, sym, ap, _∙_}
 use mathlib.Core.List.{List, [], _∷_, _++_}
 use Prim.Native.Nat.{ℕ, zero, suc, _+_, _-_, _≤_}
 use native.Mathlib.Omega.{arith}
 use lib.ListN.{length, take, drop, length-drop, length-take}
-use lib.Seq.{take-all, take-add, drop-drop, getD-drop, drop-append-le, take-append-le, take-at, drop-at}
+use lib.Seq.{take-all, take-add, take-take, drop-drop, getD-drop, drop-append-le, take-append-le, take-at, drop-at}
 use Rattle.numbers.specs.Lists.{Bytes, part}
 
 -- the rest of a slice, `&s[at..]`, is its `drop`
@@ -33,6 +33,17 @@ part-append-le s t at n h =
 
 pub part-at : (p q r : List ℕ) (at n : ℕ) → length p ≡ at → length q ≡ n → part (p ++ (q ++ r)) at n ≡ q
 part-at p q r at n e f = ap (take n) (drop-at p (q ++ r) at e) ∙ take-at q r n f
+
+-- a part of a part
+part-take : (d : List ℕ) (k n m : ℕ) → k + n ≤ m → part (take m d) k n ≡ part d k n
+part-take d zero n m h = take-take n m d (omega arith)
+part-take [] (suc k) n zero h = refl
+part-take [] (suc k) n (suc m) h = refl
+part-take (x ∷ d) (suc k) n zero h = absurd (omega arith)
+part-take (x ∷ d) (suc k) n (suc m) h = part-take d k n m (omega arith)
+
+pub part-part : (s : List ℕ) (at m k n : ℕ) → k + n ≤ m → part (part s at m) k n ≡ part s (at + k) n
+part-part s at m k n h = part-take (drop at s) k n m h ∙ ap (take n) (drop-drop k at s)
 
 -- ---- lists of bytes
 pub bytes-drop : (s : List ℕ) (at : ℕ) → Bytes s → Bytes (drop at s)
