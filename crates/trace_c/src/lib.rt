@@ -1,0 +1,10 @@
+// The functions that C and Rust call. include/trace.h says what each argument is and what each number
+// means; a struct there is here the array of its numbers.
+mod flat;
+mod read;
+
+pub use read::aglimtaq_next_name;
+pub use read::aglimtaq_one_record;
+pub use read::aglimtaq_parse;
+pub use read::aglimtaq_read_next;
+pub use read::aglimtaq_value;

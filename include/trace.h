@@ -1,0 +1,132 @@
+/*
+ * Reading execution traces, from C or any language that can call C.
+ *
+ * Link with the archive libtrace_c.a. Every function here is proved: it ends, for all bytes and all
+ * numbers; it reads the bytes that it is lent and no others; it writes what its last argument points
+ * to, all of it at every call, and nothing else. It allocates nothing and keeps nothing: what it is
+ * lent is the caller's before, during and after the call. A function may run in several threads at
+ * once, each with a struct of its own.
+ *
+ * `bytes` points to `length` bytes that nobody alters during the call. It is not NULL, also where
+ * length is 0. The last argument is not NULL and does not overlap the bytes.
+ *
+ * docs/FORMAT.md describes the format; 'a part' is a stretch of the lent bytes, from `start` up to and
+ * without `end`.
+ */
+#ifndef AGLIMTAQ_TRACE_H
+#define AGLIMTAQ_TRACE_H
+
+#include <stddef.h>
+#include <stdint.h>
+
+#ifdef __cplusplus
+extern "C" {
+#endif
+
+/* What a reading says. */
+enum aglimtaq_answer {
+    AGLIMTAQ_SHOWN = 0,      /* a record: type, numbers and bytes hold it */
+    AGLIMTAQ_REFUSED_AT = 1, /* a record was framed, and refused: `number` says why */
+    AGLIMTAQ_REFUSED = 2,    /* refused without a record: `number` says why */
+    AGLIMTAQ_FINISHED = 3,   /* the position is the end of the bytes */
+    AGLIMTAQ_UNFINISHED = 4  /* the bytes end inside a record, which wants `number` bytes from its start */
+};
+
+/* Why a reading is refused. */
+enum aglimtaq_refusal {
+    AGLIMTAQ_NO_VALUE = 1,      /* the span is empty, or length bytes or span are not wholly there */
+    AGLIMTAQ_SHORT_SPAN = 2,    /* the span ends in 0 and is shorter than five bytes */
+    AGLIMTAQ_NOT_MAGIC = 3,     /* kind Magic, but not the eight magic bytes */
+    AGLIMTAQ_SHORT_CONTENT = 4, /* fewer content bytes than the record type takes */
+    AGLIMTAQ_NAME_NOT_TEXT = 5, /* a function's name that is not UTF-8 */
+    AGLIMTAQ_UNKNOWN_KIND = 7,  /* a kind of record that this format does not have */
+    AGLIMTAQ_BEYOND_END = 8     /* the caller's mistake: the position lies beyond the end of the bytes */
+};
+
+/* The record types. Behind each: its numbers, in order; then what its part of the bytes is. */
+enum aglimtaq_type {
+    AGLIMTAQ_NO_TYPE = 0,                  /* not a record */
+    AGLIMTAQ_MAGIC = 1,                    /* */
+    AGLIMTAQ_ARCH = 2,                     /* contents */
+    AGLIMTAQ_REGISTER_NAME_MAP = 3,        /* count; register list */
+    AGLIMTAQ_UNKNOWN_FILE_META = 4,        /* tag; contents */
+    AGLIMTAQ_MAP = 5,                      /* base; contents */
+    AGLIMTAQ_UNMAP = 6,                    /* base, length */
+    AGLIMTAQ_INSTRUCTION = 7,              /* pc; instruction bytes */
+    AGLIMTAQ_PC = 8,                       /* pc */
+    AGLIMTAQ_INSTRUCTION_COUNT = 9,        /* tick */
+    AGLIMTAQ_THREAD_ID = 10,               /* thread */
+    AGLIMTAQ_PROCESS_ID = 11,              /* process */
+    AGLIMTAQ_CALL_BEGIN = 12,              /* address; the function's name */
+    AGLIMTAQ_CALL_MODELED_OPS_END = 13,    /* */
+    AGLIMTAQ_CALL_END = 14,                /* address of the call */
+    AGLIMTAQ_OPERAND_UNCERTAIN = 15,       /* */
+    AGLIMTAQ_ADDRESS_DEPENDENCY_EDGE = 16, /* address */
+    AGLIMTAQ_REGISTER_DEPENDENCY_EDGE = 17, /* register */
+    AGLIMTAQ_MEMORY_ALLOCATED = 18,        /* address, size */
+    AGLIMTAQ_MEMORY_FREED = 19,            /* address, size */
+    AGLIMTAQ_MEMORY_REALLOCATED = 20,      /* new address, old address, size */
+    AGLIMTAQ_UNKNOWN_META = 21,            /* tag; contents */
+    AGLIMTAQ_INTERRUPT = 22,               /* number, tick */
+    AGLIMTAQ_REG_READ = 23,                /* register; contents */
+    AGLIMTAQ_REG_WRITE = 24,               /* register; contents */
+    AGLIMTAQ_REG_WRITE_NATIVE = 25,        /* native register; contents */
+    AGLIMTAQ_MEM_READ = 26,                /* address; contents */
+    AGLIMTAQ_MEM_WRITE = 27                /* address; contents */
+};
+
+/* What a reading gives. A field that an answer does not use is 0. */
+struct aglimtaq_reading {
+    uint64_t position;    /* where the next call reads; kept unless a record was framed */
+    uint64_t answer;      /* enum aglimtaq_answer */
+    uint64_t number;      /* enum aglimtaq_refusal, or the number wanted */
+    uint64_t start;       /* the framed record */
+    uint64_t end;
+    uint64_t type;        /* enum aglimtaq_type */
+    uint64_t numbers[3];  /* the record's numbers */
+    uint64_t bytes_start; /* the part that is its name, register list or contents */
+    uint64_t bytes_end;
+};
+
+/* The record that starts at `position`. The first call reads at 0, each later one at the position that
+ * the call before handed back, until the answer is FINISHED, UNFINISHED or REFUSED. */
+void aglimtaq_read_next(const uint8_t *bytes, size_t length, size_t position,
+                        struct aglimtaq_reading *reading);
+
+/* The one record that these bytes are, which stand at `base` in a trace: parts are counted from the
+ * trace's start. The answer is SHOWN or REFUSED; position, start and end are 0. BEYOND_END where base +
+ * length passes the largest size_t. */
+void aglimtaq_parse(const uint8_t *bytes, size_t length, size_t base,
+                    struct aglimtaq_reading *reading);
+
+/* How many bytes the record has that these bytes begin with. If the answer is not more than `length` the
+ * record is wholly there; otherwise so many are wanted. */
+uint64_t aglimtaq_one_record(const uint8_t *bytes, size_t length);
+
+/* Where the content lies of the record that these bytes begin with. */
+struct aglimtaq_part {
+    uint64_t start;
+    uint64_t end;
+};
+
+/* 0, and the part; or NO_VALUE or SHORT_SPAN, and a part of zeros. */
+uint64_t aglimtaq_value(const uint8_t *bytes, size_t length, struct aglimtaq_part *part);
+
+/* An entry of a register list. */
+struct aglimtaq_entry {
+    uint64_t number;     /* the native register's number */
+    uint64_t name_start; /* its name, in the list's bytes */
+    uint64_t name_end;
+    uint64_t next;       /* where the next entry is */
+};
+
+/* The entry at a place of a register list's bytes (the part of a REGISTER_NAME_MAP), first at 0, then at
+ * each entry's `next`. 1, and the entry; or 0 and zeros, where no whole entry stands there. */
+uint64_t aglimtaq_next_name(const uint8_t *list, size_t length, size_t at,
+                            struct aglimtaq_entry *entry);
+
+#ifdef __cplusplus
+}
+#endif
+
+#endif
