@@ -1,0 +1,57 @@
+// The lines of standard input, one after the other.
+ghost use Prim.Native.Nat.{_≤_};
+ghost use lib.ListN.{length};
+use crate::answers::answer;
+use crate::input::decode;
+
+// Where the line ends that a place is in.
+fn line_end(text: &[u8], from: usize) -> usize
+    requires { ⌜ from ≤ length (now text) ⌝ }
+    ensures { λ r. ⌜ (from ≤ r) × (r ≤ length (now (text .entry))) ⌝ }
+{
+    let mut i = from;
+    while i < text.len() {
+        if text[i] == b'\n' {
+            return i;
+        }
+        i = i + 1;
+    }
+    i
+}
+
+fn is_comment(line: &[u8]) -> bool {
+    if line.len() == 0 {
+        return false;
+    }
+    line[0] == b'#'
+}
+
+// The answers to the input that a line is.
+fn answer_input(line: &[u8], bytes: &mut [u8]) {
+    let input = decode(line, bytes);
+    let count = input.count;
+    if input.good {
+        answer(&bytes[..count]);
+    } else {
+        print::text(b"not an input");
+    }
+}
+
+// A comment is handed on; any other line is an input, decoded into the lent bytes.
+fn answer_line(line: &[u8], bytes: &mut [u8]) {
+    if is_comment(line) {
+        return print::text(line);
+    }
+    answer_input(line, bytes);
+}
+
+pub fn answer_lines(text: &[u8]) {
+    let mut bytes = [0u8; 66048];
+    let mut at = 0;
+    while at < text.len() {
+        let end = line_end(text, at);
+        answer_line(&text[at..end], &mut bytes);
+        print::text(b"\n");
+        at = end + 1;
+    }
+}

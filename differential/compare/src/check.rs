@@ -1,0 +1,82 @@
+//! Everything that is compared for one input.
+
+use crate::ours;
+use crate::tally::Tally;
+use compare::answer::{Answer, Entry, FINISHED, SHOWN, UNFINISHED};
+use compare::source::{self, Said};
+
+const REGISTER_NAME_MAP: u64 = 3;
+const BEYOND_END: u64 = 8;
+const LAST: u64 = u64::MAX;
+
+pub fn check(bytes: &[u8], tally: &mut Tally) {
+    tally.begin(bytes);
+    tally.inside("one_record", 0, &source::one_record(bytes), &ours::one_record(bytes));
+    walk(bytes, tally);
+    tally.hold("value", 0, &source::value(bytes), &ours::value(bytes));
+    parse(bytes, tally);
+    beyond(bytes, tally);
+    tally.end(bytes);
+}
+
+/// From record to record, each call at the position that ours handed back, up to the first difference.
+fn walk(bytes: &[u8], tally: &mut Tally) {
+    let mut position = 0;
+    loop {
+        let said = source::next(bytes, position);
+        let ours = ours::read_next(bytes, position);
+        if !tally.hold("read_next, position", position as u64, &said, &ours) {
+            return;
+        }
+        match said.says.answer {
+            FINISHED | UNFINISHED => break,
+            SHOWN if said.says.record_type == REGISTER_NAME_MAP => names(bytes, &said.says, tally),
+            _ => {}
+        }
+        position = ours.position as usize;
+    }
+}
+
+/// The names of the register list that `map` shows, in turn, up to the end.
+fn names(bytes: &[u8], map: &Answer, tally: &mut Tally) {
+    let [start, end, from, to] =
+        [map.start, map.end, map.bytes_start, map.bytes_end].map(|place| place as usize);
+    let list = &bytes[from..to];
+    let mut at = 0;
+    for entry in source::names(&bytes[start..end], from - start) {
+        if !tally.inside("next_name, at", at as u64, &(1, entry), &ours::next_name(list, at)) {
+            return;
+        }
+        at = entry.next as usize;
+    }
+    let none = (0, Entry::default());
+    tally.inside("next_name, at", at as u64, &none, &ours::next_name(list, at));
+    for beyond in [list.len() as u64, list.len() as u64 + 1, LAST - 2, LAST] {
+        let ours = ours::next_name(list, beyond as usize);
+        tally.beyond("next_name, at", beyond, &none, &ours);
+    }
+}
+
+/// The bytes as they are, whether or not they are one frame: at base 0, and at another by turns.
+fn parse(bytes: &[u8], tally: &mut Tally) {
+    let Said { says, outside } = source::parse(bytes);
+    let room = LAST - bytes.len() as u64;
+    for base in [0, tally.turn(&[1, 0x1_0000_0005, room])] {
+        let said = Said { says: says.at(base), outside };
+        tally.hold("parse, base", base, &said, &ours::parse(bytes, base));
+    }
+}
+
+/// A position or a base that is too large, by turns.
+fn beyond(bytes: &[u8], tally: &mut Tally) {
+    let refused = Answer::refused(BEYOND_END);
+    let length = bytes.len() as u64;
+    if bytes.is_empty() || tally.turn(&[true, false]) {
+        let position = tally.turn(&[length + 1, length + 2, LAST]);
+        let ours = ours::read_next(bytes, position as usize);
+        tally.beyond("read_next, position", position, &Answer { position, ..refused }, &ours);
+    } else {
+        let base = tally.turn(&[LAST - length + 1, LAST]);
+        tally.beyond("parse, base", base, &refused, &ours::parse(bytes, base));
+    }
+}

@@ -1,0 +1,135 @@
+//! The inputs, class by class. Each class hands its inputs to `use_input`, in the same order in every run.
+
+mod kinds;
+mod lists;
+mod names;
+mod sizes;
+pub mod traces;
+
+use crate::frame::{self, KINDS};
+use kinds::{kinds, lengths, magic, tag_rows, tags};
+use lists::lists;
+use names::names;
+use sizes::sizes;
+use traces::{damaged, emitted, random_strings, written};
+
+pub type Use<'a> = &'a mut dyn FnMut(&[u8]);
+
+pub struct Class {
+    pub name: &'static str,
+    make: fn(usize, Use),
+    /// How many inputs are asked for in the bounded and in the long run. A class that has an end of its own takes
+    /// this for how fine it is.
+    bounded: usize,
+    long: usize,
+    /// How many are kept.
+    pub kept: usize,
+}
+
+#[derive(Clone, Copy, PartialEq, Eq)]
+pub enum Run {
+    Bounded,
+    Long,
+}
+
+impl Class {
+    pub fn make(&self, run: Run, use_input: Use) {
+        let amount = if run == Run::Long { self.long } else { self.bounded };
+        (self.make)(amount, use_input);
+    }
+}
+
+const fn class(name: &'static str, make: fn(usize, Use), [bounded, long]: [usize; 2], kept: usize) -> Class {
+    Class { name, make, bounded, long, kept }
+}
+
+pub const CLASSES: [Class; 15] = [
+    class("examples", examples, [1, 1], 99),
+    class("up to three bytes", up_to_three, [1, 1], 300),
+    class("four bytes", four, [1, 2], 100),
+    class("kinds and sizes", kinds, [1, 20], 350),
+    class("tags and sizes", tags, [1, 10], 300),
+    class("lengths", lengths, [1, 1], 100),
+    class("all tags in rows", tag_rows, [1, 1], 64),
+    class("Magic", magic, [1, 1], 60),
+    class("names", names, [1, 20], 300),
+    class("register lists", lists, [300_000, 10_000_000], 300),
+    class("large contents", sizes, [1, 2], 60),
+    class("written traces", written, [500_000, 10_000_000], 250),
+    class("emitted traces", emitted, [200_000, 5_000_000], 250),
+    class("damaged traces", damaged, [3_000_000, 60_000_000], 350),
+    class("random strings", random_strings, [3_000_000, 60_000_000], 300),
+];
+
+/// Document 01's examples, and the smallest inputs outside its domain.
+const EXAMPLES: &[&str] = &[
+    "",
+    "20",
+    "21 00",
+    "21 01 00",
+    "31 01 02",
+    "21",
+    "22 01",
+    "21 09 00",
+    "55 02 07 03",
+    "09 02 aa 03",
+    "05",
+    "03 ff ff ff ff",
+    "21 09 00 10 00 00 00 00 00 00 0a",
+    "39 0d 03 00 00 00 02 01 00 00 00 00 00 00 0e",
+    "13 0d 00 00 00 00 20 00 00 00 00 00 00 0d 00 00 00 00",
+    "f1 06 65 78 00 3c 7f 07 31 06 01 05 00 00 00 07",
+    "01 01 00",
+    "31 02 03 03",
+    "31 02 09 03",
+    "31 02 0a 03",
+    "31 02 0b 03",
+];
+
+/// Names of which document 01 says that two pass and three do not.
+const NAMES: [&[u8]; 5] =
+    [b"\xe2\x82\xac", b"\xf4\x8f\xbf\xbf", b"\xc0\x80", b"\xed\xa0\x80", b"\xf4\x90\x80\x80"];
+
+fn examples(_: usize, use_input: Use) {
+    for text in EXAMPLES {
+        let byte = |pair| u8::from_str_radix(pair, 16).expect("two digits");
+        let bytes: Vec<u8> = text.split_whitespace().map(byte).collect();
+        use_input(&bytes);
+    }
+    for name in NAMES {
+        let mut content = [0; 41];
+        content[0] = 3;
+        content[1..=name.len()].copy_from_slice(name);
+        let mut bytes = Vec::new();
+        frame::written(&mut bytes, frame::META, &content);
+        use_input(&bytes);
+    }
+}
+
+fn up_to_three(_: usize, use_input: Use) {
+    use_input(&[]);
+    for a in 0..=255 {
+        use_input(&[a]);
+    }
+    for a in 0..=255 {
+        (0..=255).for_each(|b| use_input(&[a, b]));
+    }
+    for a in 0..=255 {
+        for b in 0..=255 {
+            (0..=255).for_each(|c| use_input(&[a, b, c]));
+        }
+    }
+}
+
+/// A kind with one length byte, a length of up to three, and any two bytes: the known kinds, or all.
+fn four(fine: usize, use_input: Use) {
+    for kind in (0..=252u8).step_by(4) {
+        if fine > 1 || KINDS.contains(&kind) {
+            for length in 0..=3 {
+                for a in 0..=255 {
+                    (0..=255).for_each(|b| use_input(&[kind | 1, length, a, b]));
+                }
+            }
+        }
+    }
+}

@@ -1,0 +1,14 @@
+//! What both programs of this package share: the original's answers, and the inputs. The program `compare` holds
+//! the proved codec against them; the program `keep` writes them down.
+
+pub mod answer;
+pub mod classes;
+pub mod content;
+pub mod damage;
+pub mod emit;
+pub mod frame;
+pub mod hex;
+pub mod panics;
+pub mod random;
+pub mod shown;
+pub mod source;

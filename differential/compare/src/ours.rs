@@ -1,0 +1,58 @@
+//! What the proved codec answers, by the C interface of include/trace.h.
+
+use compare::answer::{Answer, Entry, Part, Value};
+
+extern "C" {
+    fn aglimtaq_read_next(bytes: *const u8, length: usize, position: usize, reading: *mut Answer);
+    fn aglimtaq_parse(bytes: *const u8, length: usize, base: usize, reading: *mut Answer);
+    fn aglimtaq_one_record(bytes: *const u8, length: usize) -> u64;
+    fn aglimtaq_value(bytes: *const u8, length: usize, part: *mut Part) -> u64;
+    fn aglimtaq_next_name(list: *const u8, length: usize, at: usize, entry: *mut Entry) -> u64;
+}
+
+/// What every field holds before a call, so that one which is not written is seen.
+const UNWRITTEN: u64 = 0xa5a5_a5a5_a5a5_a5a5;
+
+fn unwritten() -> Answer {
+    let x = UNWRITTEN;
+    Answer {
+        position: x,
+        answer: x,
+        number: x,
+        start: x,
+        end: x,
+        record_type: x,
+        numbers: [x; 3],
+        bytes_start: x,
+        bytes_end: x,
+    }
+}
+
+pub fn read_next(bytes: &[u8], position: usize) -> Answer {
+    let mut reading = unwritten();
+    unsafe { aglimtaq_read_next(bytes.as_ptr(), bytes.len(), position, &mut reading) };
+    reading
+}
+
+pub fn parse(bytes: &[u8], base: u64) -> Answer {
+    let mut reading = unwritten();
+    unsafe { aglimtaq_parse(bytes.as_ptr(), bytes.len(), base as usize, &mut reading) };
+    reading
+}
+
+pub fn one_record(bytes: &[u8]) -> u64 {
+    unsafe { aglimtaq_one_record(bytes.as_ptr(), bytes.len()) }
+}
+
+pub fn value(bytes: &[u8]) -> Value {
+    let mut part = Part { start: UNWRITTEN, end: UNWRITTEN };
+    let number = unsafe { aglimtaq_value(bytes.as_ptr(), bytes.len(), &mut part) };
+    (number, part)
+}
+
+pub fn next_name(list: &[u8], at: usize) -> (u64, Entry) {
+    let x = UNWRITTEN;
+    let mut entry = Entry { number: x, name_start: x, name_end: x, next: x };
+    let there = unsafe { aglimtaq_next_name(list.as_ptr(), list.len(), at, &mut entry) };
+    (there, entry)
+}

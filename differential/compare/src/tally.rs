@@ -1,0 +1,145 @@
+//! What was compared, class by class, and the first difference.
+
+use compare::hex::tokens;
+use compare::random::Random;
+use compare::source::{Outside, Said};
+use std::fmt::{Debug, Display};
+use std::hint::black_box;
+
+/// How a reason for lying outside the domain is called in the report.
+const REASONS: [(Outside, &str); 9] = [
+    (Outside::Empty, "no bytes"),
+    (Outside::Span, "short span"),
+    (Outside::Native, "RegWriteNative"),
+    (Outside::CallBegin, "Meta 3"),
+    (Outside::Allocated, "Meta 9"),
+    (Outside::Freed, "Meta 10"),
+    (Outside::Reallocated, "Meta 11"),
+    (Outside::Arch, "Arch"),
+    (Outside::Unforeseen, "UNFORESEEN"),
+];
+
+const ORIGINAL: &str = "the original";
+const DOCUMENT: &str = "document 01";
+
+#[derive(Default)]
+pub struct Tally {
+    inputs: u64,
+    /// Inputs outside the domain, by the first reason found in them.
+    reasons: [u64; REASONS.len()],
+    /// Answers of the original that ours was held against.
+    compared: u64,
+    /// Answers of ours outside the domain, held against what document 01 defines there.
+    outside: u64,
+    /// Answers of ours to a place beyond the end, which the original has no calls for.
+    beyond: u64,
+    differences: u64,
+    first: Option<String>,
+    input: Vec<u8>,
+    reason: Option<Outside>,
+    random: Random,
+}
+
+impl Tally {
+    /// Begins an input.
+    pub fn begin(&mut self, bytes: &[u8]) {
+        self.inputs += 1;
+        self.input.clear();
+        self.input.extend_from_slice(bytes);
+        self.reason = None;
+    }
+
+    /// One of several.
+    pub fn turn<T: Copy>(&mut self, of: &[T]) -> T {
+        self.random.pick(of)
+    }
+
+    /// Ends it: nobody has altered the lent bytes.
+    pub fn end(&mut self, bytes: &[u8]) {
+        if self.input != black_box(bytes) {
+            self.differ("the lent bytes", 0, ORIGINAL, &"unaltered", &"altered");
+        }
+        if let Some(reason) = self.reason {
+            let at = REASONS.iter().position(|(outside, _)| *outside == reason);
+            self.reasons[at.expect("a reason")] += 1;
+        }
+    }
+
+    /// Holds ours against what must be answered; false where they differ.
+    pub fn hold<T: PartialEq + Debug>(&mut self, what: &str, at: u64, said: &Said<T>, ours: &T) -> bool {
+        let Some(reason) = said.outside else {
+            return self.inside(what, at, &said.says, ours);
+        };
+        self.reason.get_or_insert(reason);
+        self.outside += 1;
+        if reason == Outside::Unforeseen {
+            self.differ(what, at, ORIGINAL, &"panics, at a place that is not known", ours);
+        }
+        self.equal(what, at, DOCUMENT, &said.says, ours)
+    }
+
+    /// The same, where the original answers.
+    pub fn inside<T: PartialEq + Debug>(&mut self, what: &str, at: u64, says: &T, ours: &T) -> bool {
+        self.compared += 1;
+        self.equal(what, at, ORIGINAL, says, ours)
+    }
+
+    /// The same, at a place beyond the end.
+    pub fn beyond<T: PartialEq + Debug>(&mut self, what: &str, at: u64, says: &T, ours: &T) {
+        self.beyond += 1;
+        self.equal(what, at, DOCUMENT, says, ours);
+    }
+
+    fn equal<T: PartialEq + Debug>(&mut self, what: &str, at: u64, who: &str, says: &T, ours: &T) -> bool {
+        if says != ours {
+            self.differ(what, at, who, says, ours);
+        }
+        says == ours
+    }
+
+    fn differ(&mut self, what: &str, at: u64, who: &str, says: &dyn Debug, ours: &dyn Debug) {
+        self.differences += 1;
+        if self.first.is_none() {
+            let input = tokens(&self.input);
+            let compared = format!("input         {input}\ncompared      {what} {at}");
+            self.first = Some(format!("{compared}\n{who:<13} {says:?}\nours          {ours:?}"));
+        }
+    }
+
+    pub fn first(&self) -> Option<&str> {
+        self.first.as_deref()
+    }
+
+    pub fn add(&mut self, other: Tally) {
+        self.inputs += other.inputs;
+        for (sum, count) in self.reasons.iter_mut().zip(other.reasons) {
+            *sum += count;
+        }
+        self.compared += other.compared;
+        self.outside += other.outside;
+        self.beyond += other.beyond;
+        self.differences += other.differences;
+        self.first = self.first.take().or(other.first);
+    }
+
+    pub fn header() -> String {
+        let counts = ["inputs", "inside", "compared", "outside", "beyond", "differences"];
+        row("class", counts, "inputs not inside, by reason")
+    }
+
+    pub fn line(&self, name: &str) -> String {
+        let inside = self.inputs - self.reasons.iter().sum::<u64>();
+        let counts = [self.inputs, inside, self.compared, self.outside, self.beyond, self.differences];
+        let named = REASONS.iter().zip(self.reasons).filter(|(_, count)| *count > 0);
+        let reasons: Vec<String> = named.map(|((_, reason), count)| format!("{count} {reason}")).collect();
+        row(name, counts, &reasons.join(", "))
+    }
+}
+
+fn row<T: Display>(name: &str, counts: [T; 6], reasons: &str) -> String {
+    let [inputs, inside, compared, outside, beyond, differences] = counts;
+    let row = format!(
+        "{name:<17} {inputs:>10} {inside:>10} {compared:>11} {outside:>8} {beyond:>11} {differences:>11}  {reasons}"
+    );
+    row.trim_end().into()
+}
