@@ -1,14 +1,14 @@
 /*
- * Reading execution traces, from C or any language that can call C.
+ * Reading and writing execution traces, from C or any language that can call C.
  *
  * Link with the archive libtrace_c.a. Every function here is proved: it ends, for all bytes and all
  * numbers; it reads the bytes that it is lent and no others; it writes what its last argument points
- * to, all of it at every call, and nothing else. It allocates nothing and keeps nothing: what it is
- * lent is the caller's before, during and after the call. A function may run in several threads at
- * once, each with a struct of its own.
+ * to, all of it at every call, and nothing else, save that aglimtaq_write writes a record into `out`. It
+ * allocates nothing and keeps nothing: what it is lent is the caller's before, during and after the
+ * call. A function may run in several threads at once, each with a struct, and an output, of its own.
  *
- * `bytes` points to `length` bytes that nobody alters during the call. It is not NULL, also where
- * length is 0. The last argument is not NULL and does not overlap the bytes.
+ * A pointer to bytes is followed by their number; nobody alters them during the call. No pointer is
+ * NULL, also where the number is 0. What is written overlaps nothing else that is lent.
  *
  * docs/FORMAT.md describes the format; 'a part' is a stretch of the lent bytes, from `start` up to and
  * without `end`.
@@ -23,7 +23,7 @@
 extern "C" {
 #endif
 
-/* What a reading says. */
+/* What a reading says. In reading backwards there is no UNFINISHED, and FINISHED is position 0. */
 enum aglimtaq_answer {
     AGLIMTAQ_SHOWN = 0,      /* a record: type, numbers and bytes hold it */
     AGLIMTAQ_REFUSED_AT = 1, /* a record was framed, and refused: `number` says why */
@@ -32,15 +32,23 @@ enum aglimtaq_answer {
     AGLIMTAQ_UNFINISHED = 4  /* the bytes end inside a record, which wants `number` bytes from its start */
 };
 
-/* Why a reading is refused. */
+/* Why a reading or a writing is refused. */
 enum aglimtaq_refusal {
     AGLIMTAQ_NO_VALUE = 1,      /* the span is empty, or length bytes or span are not wholly there */
     AGLIMTAQ_SHORT_SPAN = 2,    /* the span ends in 0 and is shorter than five bytes */
     AGLIMTAQ_NOT_MAGIC = 3,     /* kind Magic, but not the eight magic bytes */
     AGLIMTAQ_SHORT_CONTENT = 4, /* fewer content bytes than the record type takes */
     AGLIMTAQ_NAME_NOT_TEXT = 5, /* a function's name that is not UTF-8 */
+    AGLIMTAQ_NO_START = 6,      /* backwards only: the trailer leads to before the first byte */
     AGLIMTAQ_UNKNOWN_KIND = 7,  /* a kind of record that this format does not have */
-    AGLIMTAQ_BEYOND_END = 8     /* the caller's mistake: the position lies beyond the end of the bytes */
+    /* The caller's mistakes. */
+    AGLIMTAQ_BEYOND_END = 8,    /* the position lies beyond the end of the bytes */
+    AGLIMTAQ_NO_ROOM = 9,       /* the output is too small for the record */
+    AGLIMTAQ_LONG_CONTENT = 10, /* the content is too long for its type */
+    AGLIMTAQ_BAD_NAME = 11,     /* a name over 32 bytes, with a zero byte, or that is not UTF-8 */
+    AGLIMTAQ_TAKEN_TAG = 12,    /* the tag of an unknown type that another type has */
+    AGLIMTAQ_SHORT_LIST = 13,   /* a register list that does not hold its count of entries */
+    AGLIMTAQ_NOT_A_RECORD = 256 /* a type that is not written, or a number that does not fit its type */
 };
 
 /* The record types. Behind each: its numbers, in order; then what its part of the bytes is. */
@@ -93,6 +101,11 @@ struct aglimtaq_reading {
 void aglimtaq_read_next(const uint8_t *bytes, size_t length, size_t position,
                         struct aglimtaq_reading *reading);
 
+/* The record that ends at `position`. The first call reads at the end of the trace, each later one at the
+ * position that the call before handed back, until the answer is FINISHED or REFUSED. */
+void aglimtaq_read_previous(const uint8_t *bytes, size_t length, size_t position,
+                            struct aglimtaq_reading *reading);
+
 /* The one record that these bytes are, which stand at `base` in a trace: parts are counted from the
  * trace's start. The answer is SHOWN or REFUSED; position, start and end are 0. BEYOND_END where base +
  * length passes the largest size_t. */
@@ -124,6 +137,20 @@ struct aglimtaq_entry {
  * each entry's `next`. 1, and the entry; or 0 and zeros, where no whole entry stands there. */
 uint64_t aglimtaq_next_name(const uint8_t *list, size_t length, size_t at,
                             struct aglimtaq_entry *entry);
+
+/* A record to be written. Numbers that its type does not have are not looked at. */
+struct aglimtaq_record {
+    uint64_t type;       /* enum aglimtaq_type, but not NO_TYPE and not ARCH */
+    uint64_t numbers[3]; /* its numbers, in order */
+};
+
+/* Writes a record at `position` of `out`; its name, register list or contents are the `length` bytes at
+ * `bytes`, which a type that has none does not look at. 0, and the position behind the record, where the
+ * next call writes; or why it is refused, and the same position: then no byte of `out` is altered. The
+ * first call writes at 0. NOT_A_RECORD where a number has more bits than its type: 8 a count or a tag, 16
+ * a native register, 32 a register, a thread, an interrupt or a size, 64 every other. */
+uint64_t aglimtaq_write(uint8_t *out, size_t room, size_t position, const struct aglimtaq_record *record,
+                        const uint8_t *bytes, size_t length, uint64_t *next);
 
 #ifdef __cplusplus
 }

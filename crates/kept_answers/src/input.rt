@@ -2,6 +2,7 @@
 ghost use mathlib.Core.Path.{_≡_};
 ghost use Prim.Native.Nat.{_+_, _≤_, _<_};
 ghost use lib.ListN.{length};
+use std::num::wrapping_add_u64;
 
 // The value of a hexadecimal digit; 16 for any other byte.
 fn digit(b: u8) -> u8
@@ -47,6 +48,39 @@ fn decimal(line: &[u8], from: usize) -> Number
         i = i + 1;
     }
     Number { value, end: i }
+}
+
+// A number of 64 bits in decimal digits, behind a space; and the place behind it.
+pub struct Wide {
+    pub value: u64,
+    pub end: usize,
+}
+
+// Ten times a number and a digit.
+fn append(value: u64, d: u8) -> u64 {
+    let twice = wrapping_add_u64(value, value);
+    let four = wrapping_add_u64(twice, twice);
+    let eight = wrapping_add_u64(four, four);
+    wrapping_add_u64(wrapping_add_u64(eight, twice), d as u64)
+}
+
+pub fn wide_number(line: &[u8], space: usize) -> Wide
+    ensures { λ r. ⌜ space ≤ r .end ⌝ }
+{
+    let mut value = 0;
+    if line.len() <= space {
+        return Wide { value, end: space };
+    }
+    let mut i = space + 1;
+    while i < line.len() {
+        let d = digit(line[i]);
+        if d > 9 {
+            return Wide { value, end: i };
+        }
+        value = append(value, d);
+        i = i + 1;
+    }
+    Wide { value, end: i }
 }
 
 // So many times a byte, and the place behind it in the line. Where it is not good, no run stands there.

@@ -3,6 +3,7 @@ ghost use Prim.Native.Nat.{_≤_};
 ghost use lib.ListN.{length};
 use crate::answers::answer;
 use crate::input::decode;
+use crate::writes::write_line;
 
 // Where the line ends that a place is in.
 fn line_end(text: &[u8], from: usize) -> usize
@@ -19,11 +20,11 @@ fn line_end(text: &[u8], from: usize) -> usize
     i
 }
 
-fn is_comment(line: &[u8]) -> bool {
+fn begins_with(line: &[u8], byte: u8) -> bool {
     if line.len() == 0 {
         return false;
     }
-    line[0] == b'#'
+    line[0] == byte
 }
 
 // The answers to the input that a line is.
@@ -37,10 +38,14 @@ fn answer_input(line: &[u8], bytes: &mut [u8]) {
     }
 }
 
-// A comment is handed on; any other line is an input, decoded into the lent bytes.
+// A comment is handed on; a `w` asks for a record to be written; any other line is an input, decoded into
+// the lent bytes.
 fn answer_line(line: &[u8], bytes: &mut [u8]) {
-    if is_comment(line) {
+    if begins_with(line, b'#') {
         return print::text(line);
+    }
+    if begins_with(line, b'w') {
+        return write_line(line, bytes);
     }
     answer_input(line, bytes);
 }

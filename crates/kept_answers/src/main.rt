@@ -1,10 +1,13 @@
 // Reads inputs from standard input, a line each, 262,144 bytes at most, and writes what this codec
-// answers to each: the walk over it from 0 on, in one line. `stdin` has the inputs, and `stdout` what
-// the Rust answered to them; their first lines say how they were made.
+// answers to each: the walk over it from 0 on, in one line; or the bytes that it writes of a record.
+// `stdin` has the inputs, and `stdout` what the Rust answered to them; their first lines say how they
+// were made.
 mod answers;
 mod input;
 mod lines;
 mod names;
+mod tokens;
+mod writes;
 
 use libc::STDIN_FILENO;
 use lines::answer_lines;

@@ -7,11 +7,11 @@ use Rattle.frames.specs.declared.read.Content.the-variants as content
 use Rattle.frames.specs.declared.read.Part.{Part}
 use Rattle.records.specs.declared.names.NextName.{NextName}
 use Rattle.records.specs.declared.names.NextName.the-variants as next
-use Rattle.records.specs.declared.read.Answer.{Answer}
-use Rattle.records.specs.declared.read.Answer.the-variants as answer
+use Rattle.traces.specs.declared.read.Answer.{Answer}
+use Rattle.traces.specs.declared.read.Answer.the-variants as answer
 use Rattle.records.specs.declared.read.Parsed.{Parsed}
 use Rattle.records.specs.declared.read.Parsed.the-variants as parsed
-use Rattle.records.specs.declared.read.Reading.{Reading}
+use Rattle.traces.specs.declared.read.Reading.{Reading}
 use Rattle.records.specs.declared.record.FileMeta.{FileMeta}
 use Rattle.records.specs.declared.record.FileMeta.the-variants as file
 use Rattle.records.specs.declared.record.Meta.{Meta}

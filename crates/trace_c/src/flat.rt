@@ -2,11 +2,11 @@
 ghost use mathlib.Core.Path.{_≡_};
 ghost use Rattle.trace_c.specs.Flat.{fields, none, fileMetaFields, metaFields, fieldsOf, flatAnswer, flatParsed};
 use frames::read::Part;
-use records::read::Answer;
 use records::read::Parsed;
 use records::record::FileMeta;
 use records::record::Meta;
 use records::record::Record;
+use traces::read::Answer;
 
 // A record: its type's number, its numbers, and where its bytes lie.
 pub struct Fields {

@@ -1,10 +1,14 @@
 // The functions that C and Rust call. include/trace.h says what each argument is and what each number
 // means; a struct there is here the array of its numbers.
 mod flat;
+mod given;
 mod read;
+mod write;
 
 pub use read::aglimtaq_next_name;
 pub use read::aglimtaq_one_record;
 pub use read::aglimtaq_parse;
 pub use read::aglimtaq_read_next;
+pub use read::aglimtaq_read_previous;
 pub use read::aglimtaq_value;
+pub use write::aglimtaq_write;

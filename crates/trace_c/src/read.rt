@@ -1,7 +1,8 @@
 // Reading, by numbers and byte slices.
 ghost use mathlib.Core.Path.{_≡_};
 ghost use Rattle.frames.specs.Frames.{needed, valueOf};
-ghost use Rattle.records.specs.Reading.{parseAt, readNext, nextName};
+ghost use Rattle.records.specs.Reading.{parseAt, nextName};
+ghost use Rattle.traces.specs.Positions.{readNext, readPrevious};
 ghost use Rattle.trace_c.specs.Flat.{flatReading, flatParsed, flatContent, contentNumber, flatName, nameNumber};
 use crate::flat::of_answer;
 use crate::flat::of_parsed;
@@ -11,8 +12,8 @@ use frames::read::one_record;
 use frames::read::value;
 use records::names::Names;
 use records::names::NextName;
-use records::position::Position;
 use records::record::Record;
+use traces::position::Position;
 
 #[no_mangle]
 pub extern "C" fn aglimtaq_read_next(bytes: &[u8], position: usize, reading: &mut [u64; 11])
@@ -22,6 +23,16 @@ pub extern "C" fn aglimtaq_read_next(bytes: &[u8], position: usize, reading: &mu
     let place = next.position;
     let answer = next.answer;
     *reading = of_answer(place.at, answer);
+}
+
+#[no_mangle]
+pub extern "C" fn aglimtaq_read_previous(bytes: &[u8], position: usize, reading: &mut [u64; 11])
+    ensures { λ _. ⌜ now (reading .exit) ≡ flatReading (readPrevious (now (bytes .entry)) (record { at = position })) ⌝ }
+{
+    let previous = Position { at: position }.read_previous(bytes);
+    let start = previous.position;
+    let answer = previous.answer;
+    *reading = of_answer(start.at, answer);
 }
 
 #[no_mangle]

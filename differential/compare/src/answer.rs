@@ -1,4 +1,4 @@
-//! What both sides answer. The three structs are laid out as in include/trace.h, where each field is explained.
+//! What both sides answer, and what is written. The four structs are laid out as in include/trace.h, where each field is explained.
 
 pub const SHOWN: u64 = 0;
 pub const REFUSED_AT: u64 = 1;
@@ -37,6 +37,14 @@ pub struct Entry {
     pub name_start: u64,
     pub name_end: u64,
     pub next: u64,
+}
+
+/// `struct aglimtaq_record`.
+#[repr(C)]
+#[derive(Clone, Copy, Debug, Default, PartialEq, Eq, PartialOrd, Ord)]
+pub struct FlatRecord {
+    pub record_type: u64,
+    pub numbers: [u64; 3],
 }
 
 /// What `value` gives: 0 and a part, or a refusal and a part of zeros.
@@ -78,6 +86,11 @@ impl Answer {
         let answer = if self.answer == REFUSED { REFUSED_AT } else { self.answer };
         let end = start + length;
         Self { answer, start, end, position: end, ..self.at(start) }
+    }
+
+    /// The same, where the record was found from its end: the position is its start.
+    pub fn framed_back(self, start: u64, length: u64) -> Self {
+        Self { position: start, ..self.framed(start, length) }
     }
 
     /// The last answer of a walk.

@@ -1,4 +1,4 @@
-//! Everything that is compared for one input.
+//! Everything that is compared for one input that is read.
 
 use crate::ours;
 use crate::tally::Tally;
@@ -9,17 +9,22 @@ const REGISTER_NAME_MAP: u64 = 3;
 const BEYOND_END: u64 = 8;
 const LAST: u64 = u64::MAX;
 
+/// How many records are read backwards from the end.
+const BACK: usize = 64;
+
 pub fn check(bytes: &[u8], tally: &mut Tally) {
     tally.begin(bytes);
     tally.inside("one_record", 0, &source::one_record(bytes), &ours::one_record(bytes));
     walk(bytes, tally);
+    walk_back(bytes, tally);
     tally.hold("value", 0, &source::value(bytes), &ours::value(bytes));
     parse(bytes, tally);
     beyond(bytes, tally);
     tally.end(bytes);
 }
 
-/// From record to record, each call at the position that ours handed back, up to the first difference.
+/// From record to record, each call at the position that ours handed back, up to the first difference; by turns also
+/// back from there.
 fn walk(bytes: &[u8], tally: &mut Tally) {
     let mut position = 0;
     loop {
@@ -34,6 +39,35 @@ fn walk(bytes: &[u8], tally: &mut Tally) {
             _ => {}
         }
         position = ours.position as usize;
+        if tally.turn(&[true, false]) {
+            previous(bytes, position, tally);
+        }
+    }
+}
+
+/// From the end on backwards, each call at the position that ours handed back; and at any position.
+fn walk_back(bytes: &[u8], tally: &mut Tally) {
+    let mut position = Some(bytes.len());
+    for _ in 0..BACK {
+        position = position.and_then(|position| previous(bytes, position, tally));
+    }
+    let any = tally.random().below(bytes.len() + 1);
+    previous(bytes, any, tally);
+}
+
+/// The record that ends at `position`; where it starts, if ours says the same.
+fn previous(bytes: &[u8], position: usize, tally: &mut Tally) -> Option<usize> {
+    let (what, at) = ("read_previous, position", position as u64);
+    let ours = ours::read_previous(bytes, position);
+    match source::start(bytes, position) {
+        Ok(start) => {
+            let said = source::previous(bytes, start, position);
+            tally.hold(what, at, &said, &ours).then_some(start)
+        }
+        Err(none) => {
+            tally.unframed(what, at, &none, &ours);
+            None
+        }
     }
 }
 
@@ -71,12 +105,20 @@ fn parse(bytes: &[u8], tally: &mut Tally) {
 fn beyond(bytes: &[u8], tally: &mut Tally) {
     let refused = Answer::refused(BEYOND_END);
     let length = bytes.len() as u64;
-    if bytes.is_empty() || tally.turn(&[true, false]) {
-        let position = tally.turn(&[length + 1, length + 2, LAST]);
-        let ours = ours::read_next(bytes, position as usize);
-        tally.beyond("read_next, position", position, &Answer { position, ..refused }, &ours);
-    } else {
-        let base = tally.turn(&[LAST - length + 1, LAST]);
-        tally.beyond("parse, base", base, &refused, &ours::parse(bytes, base));
+    let position = tally.turn(&[length + 1, length + 2, LAST]);
+    let said = Answer { position, ..refused };
+    match tally.turn(&[0, 1, 2]) {
+        0 => {
+            let ours = ours::read_next(bytes, position as usize);
+            tally.beyond("read_next, position", position, &said, &ours);
+        }
+        1 if length > 0 => {
+            let base = tally.turn(&[LAST - length + 1, LAST]);
+            tally.beyond("parse, base", base, &refused, &ours::parse(bytes, base));
+        }
+        _ => {
+            let ours = ours::read_previous(bytes, position as usize);
+            tally.beyond("read_previous, position", position, &said, &ours);
+        }
     }
 }

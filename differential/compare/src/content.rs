@@ -101,7 +101,7 @@ pub fn entry(random: &mut Random, out: &mut Vec<u8>) {
 }
 
 /// Mostly short, now and then about the border of one length byte.
-fn size(random: &mut Random) -> usize {
+pub fn size(random: &mut Random) -> usize {
     match random.below(60) {
         0 => 230 + random.below(30),
         1 => random.below(300),

@@ -2,11 +2,12 @@
 //! Exit status 1 where anything differs.
 
 mod check;
+mod check_write;
 mod listing;
 mod ours;
 mod tally;
 
-use compare::classes::{Run, CLASSES};
+use compare::classes::{writing, Run, CLASSES};
 use std::path::Path;
 use std::process::ExitCode;
 use tally::Tally;
@@ -21,6 +22,11 @@ fn main() -> ExitCode {
     for class in CLASSES {
         let mut tally = Tally::default();
         class.make(run, &mut |bytes| check::check(bytes, &mut tally));
+        report(class.name, tally, &mut total);
+    }
+    for class in writing::CLASSES {
+        let mut tally = Tally::default();
+        class.make(run, &mut |row| check_write::check(row, &mut tally));
         report(class.name, tally, &mut total);
     }
     if Path::new(&program).exists() {

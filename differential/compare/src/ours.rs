@@ -1,13 +1,23 @@
 //! What the proved codec answers, by the C interface of include/trace.h.
 
-use compare::answer::{Answer, Entry, Part, Value};
+use compare::answer::{Answer, Entry, FlatRecord, Part, Value};
 
 extern "C" {
     fn aglimtaq_read_next(bytes: *const u8, length: usize, position: usize, reading: *mut Answer);
+    fn aglimtaq_read_previous(bytes: *const u8, length: usize, position: usize, reading: *mut Answer);
     fn aglimtaq_parse(bytes: *const u8, length: usize, base: usize, reading: *mut Answer);
     fn aglimtaq_one_record(bytes: *const u8, length: usize) -> u64;
     fn aglimtaq_value(bytes: *const u8, length: usize, part: *mut Part) -> u64;
     fn aglimtaq_next_name(list: *const u8, length: usize, at: usize, entry: *mut Entry) -> u64;
+    fn aglimtaq_write(
+        out: *mut u8,
+        room: usize,
+        position: usize,
+        record: *const FlatRecord,
+        bytes: *const u8,
+        length: usize,
+        next: *mut u64,
+    ) -> u64;
 }
 
 /// What every field holds before a call, so that one which is not written is seen.
@@ -34,6 +44,12 @@ pub fn read_next(bytes: &[u8], position: usize) -> Answer {
     reading
 }
 
+pub fn read_previous(bytes: &[u8], position: usize) -> Answer {
+    let mut reading = unwritten();
+    unsafe { aglimtaq_read_previous(bytes.as_ptr(), bytes.len(), position, &mut reading) };
+    reading
+}
+
 pub fn parse(bytes: &[u8], base: u64) -> Answer {
     let mut reading = unwritten();
     unsafe { aglimtaq_parse(bytes.as_ptr(), bytes.len(), base as usize, &mut reading) };
@@ -55,4 +71,20 @@ pub fn next_name(list: &[u8], at: usize) -> (u64, Entry) {
     let mut entry = Entry { number: x, name_start: x, name_end: x, next: x };
     let there = unsafe { aglimtaq_next_name(list.as_ptr(), list.len(), at, &mut entry) };
     (there, entry)
+}
+
+/// What writing says, and the next position. The output is `out` without `around` bytes on each side.
+pub fn write(
+    out: &mut [u8],
+    around: usize,
+    position: usize,
+    record: &mut FlatRecord,
+    bytes: &[u8],
+) -> (u64, u64) {
+    let (room, mut next) = (out.len() - 2 * around, UNWRITTEN);
+    let number = unsafe {
+        let lent = out.as_mut_ptr().add(around);
+        aglimtaq_write(lent, room, position, record, bytes.as_ptr(), bytes.len(), &mut next)
+    };
+    (number, next)
 }

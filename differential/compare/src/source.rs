@@ -1,11 +1,13 @@
 //! What the original Rust answers, in the terms of trace.h; and where it lies outside the domain of document 01.
 
-use crate::answer::{Answer, Entry, Part, Value, FINISHED, UNFINISHED};
+use crate::answer::{Answer, Entry, Part, Value, FINISHED, REFUSED, UNFINISHED};
 use crate::panics::caught;
 use crate::shown::shown;
 use dynamic_trace::record::{parse_le64, Error as Why, FileMeta, ParseError, Record};
 use dynamic_trace::{index, lenlen, vlen, RawRecord};
 use std::error::Error;
+
+const NO_START: u64 = 6;
 
 /// An answer that ours must equal: the original's own or, outside the domain, the one that document 01 defines.
 pub struct Said<T> {
@@ -13,7 +15,7 @@ pub struct Said<T> {
     pub outside: Option<Outside>,
 }
 
-/// Why an input lies outside the domain.
+/// Why an input, or a record to be written, lies outside the domain.
 #[derive(Clone, Copy, Debug, PartialEq, Eq)]
 pub enum Outside {
     /// No bytes: the original reads the first unchecked, and is not called.
@@ -29,16 +31,24 @@ pub enum Outside {
     Reallocated,
     /// It refuses an Arch record for its content, which document 01 leaves out.
     Arch,
-    /// It panics at a place that nobody knows of. This counts as a difference.
+    /// The caller's mistakes in writing: 8 to 13, and what is not a record.
+    Position,
+    Room,
+    Long,
+    Name,
+    Tag,
+    List,
+    NotARecord,
+    /// It panics, or writes, where nobody foresaw it. This counts as a difference.
     Unforeseen,
 }
 
 impl<T> Said<T> {
-    fn inside(says: T) -> Self {
+    pub fn inside(says: T) -> Self {
         Said { says, outside: None }
     }
 
-    fn outside(says: T, why: Outside) -> Self {
+    pub fn outside(says: T, why: Outside) -> Self {
         Said { says, outside: Some(why) }
     }
 }
@@ -88,6 +98,28 @@ pub fn next(bytes: &[u8], position: usize) -> Said<Answer> {
         Err(_) if rest.is_empty() => Said::inside(Answer::last(FINISHED, start, 0)),
         Err(wanted) => Said::inside(Answer::last(UNFINISHED, start, wanted as u64)),
     }
+}
+
+/// The record from `start` up to `position`, read backwards.
+pub fn previous(bytes: &[u8], start: usize, position: usize) -> Said<Answer> {
+    let Said { says, outside } = parse(&bytes[start..position]);
+    Said { says: says.framed_back(start as u64, (position - start) as u64), outside }
+}
+
+/// Where the record starts that ends at `position`, or why there is none. The original has nothing of the kind;
+/// this is document 01's rule.
+pub fn start(bytes: &[u8], position: usize) -> Result<usize, Answer> {
+    let Some(&last) = bytes[..position].last() else {
+        return Err(Answer::last(FINISHED, 0, 0));
+    };
+    let found = match last {
+        0 => position.checked_sub(5).and_then(|before| {
+            let word = [0, 1, 2, 3].map(|place| bytes[before + place]);
+            before.checked_sub(u32::from_le_bytes(word) as usize)
+        }),
+        _ => position.checked_sub(1 + usize::from(last)),
+    };
+    found.ok_or(Answer::last(REFUSED, position as u64, NO_START))
 }
 
 /// The names of the register list that `record` holds, placed within the list, which starts at `list` in `record`.

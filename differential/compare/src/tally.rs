@@ -7,7 +7,7 @@ use std::fmt::{Debug, Display};
 use std::hint::black_box;
 
 /// How a reason for lying outside the domain is called in the report.
-const REASONS: [(Outside, &str); 9] = [
+const REASONS: [(Outside, &str); 16] = [
     (Outside::Empty, "no bytes"),
     (Outside::Span, "short span"),
     (Outside::Native, "RegWriteNative"),
@@ -16,6 +16,13 @@ const REASONS: [(Outside, &str); 9] = [
     (Outside::Freed, "Meta 10"),
     (Outside::Reallocated, "Meta 11"),
     (Outside::Arch, "Arch"),
+    (Outside::Position, "position"),
+    (Outside::Room, "room"),
+    (Outside::Long, "long content"),
+    (Outside::Name, "bad name"),
+    (Outside::Tag, "taken tag"),
+    (Outside::List, "short list"),
+    (Outside::NotARecord, "no record"),
     (Outside::Unforeseen, "UNFORESEEN"),
 ];
 
@@ -29,6 +36,8 @@ pub struct Tally {
     reasons: [u64; REASONS.len()],
     /// Answers of the original that ours was held against.
     compared: u64,
+    /// Answers of ours in reading backwards that frame no record: the original has no calls for them.
+    unframed: u64,
     /// Answers of ours outside the domain, held against what document 01 defines there.
     outside: u64,
     /// Answers of ours to a place beyond the end, which the original has no calls for.
@@ -54,10 +63,15 @@ impl Tally {
         self.random.pick(of)
     }
 
+    /// For what is not one of a few.
+    pub fn random(&mut self) -> &mut Random {
+        &mut self.random
+    }
+
     /// Ends it: nobody has altered the lent bytes.
     pub fn end(&mut self, bytes: &[u8]) {
         if self.input != black_box(bytes) {
-            self.differ("the lent bytes", 0, ORIGINAL, &"unaltered", &"altered");
+            self.differ(&"the lent bytes", 0, ORIGINAL, &"unaltered", &"altered");
         }
         if let Some(reason) = self.reason {
             let at = REASONS.iter().position(|(outside, _)| *outside == reason);
@@ -66,38 +80,57 @@ impl Tally {
     }
 
     /// Holds ours against what must be answered; false where they differ.
-    pub fn hold<T: PartialEq + Debug>(&mut self, what: &str, at: u64, said: &Said<T>, ours: &T) -> bool {
+    pub fn hold<T: PartialEq + Debug>(
+        &mut self,
+        what: impl Display,
+        at: u64,
+        said: &Said<T>,
+        ours: &T,
+    ) -> bool {
         let Some(reason) = said.outside else {
             return self.inside(what, at, &said.says, ours);
         };
         self.reason.get_or_insert(reason);
-        self.outside += 1;
-        if reason == Outside::Unforeseen {
-            self.differ(what, at, ORIGINAL, &"panics, at a place that is not known", ours);
+        match reason {
+            Outside::Position => self.beyond += 1,
+            _ => self.outside += 1,
         }
-        self.equal(what, at, DOCUMENT, &said.says, ours)
+        if reason == Outside::Unforeseen {
+            self.differ(&what, at, ORIGINAL, &"does what was not foreseen", ours);
+        }
+        self.equal(&what, at, DOCUMENT, &said.says, ours)
     }
 
     /// The same, where the original answers.
-    pub fn inside<T: PartialEq + Debug>(&mut self, what: &str, at: u64, says: &T, ours: &T) -> bool {
+    pub fn inside<T: PartialEq + Debug>(&mut self, what: impl Display, at: u64, says: &T, ours: &T) -> bool {
         self.compared += 1;
-        self.equal(what, at, ORIGINAL, says, ours)
+        self.equal(&what, at, ORIGINAL, says, ours)
     }
 
     /// The same, at a place beyond the end.
     pub fn beyond<T: PartialEq + Debug>(&mut self, what: &str, at: u64, says: &T, ours: &T) {
         self.beyond += 1;
-        self.equal(what, at, DOCUMENT, says, ours);
+        self.equal(&what, at, DOCUMENT, says, ours);
     }
 
-    fn equal<T: PartialEq + Debug>(&mut self, what: &str, at: u64, who: &str, says: &T, ours: &T) -> bool {
-        if says != ours {
+    /// The same, where reading backwards frames no record.
+    pub fn unframed<T: PartialEq + Debug>(&mut self, what: &str, at: u64, says: &T, ours: &T) {
+        self.unframed += 1;
+        self.equal(&what, at, DOCUMENT, says, ours);
+    }
+
+    fn equal<T>(&mut self, what: &dyn Display, at: u64, who: &str, says: &T, ours: &T) -> bool
+    where
+        T: PartialEq + Debug,
+    {
+        let equal = says == ours;
+        if !equal {
             self.differ(what, at, who, says, ours);
         }
-        says == ours
+        equal
     }
 
-    fn differ(&mut self, what: &str, at: u64, who: &str, says: &dyn Debug, ours: &dyn Debug) {
+    fn differ(&mut self, what: &dyn Display, at: u64, who: &str, says: &dyn Debug, ours: &dyn Debug) {
         self.differences += 1;
         if self.first.is_none() {
             let input = tokens(&self.input);
@@ -116,6 +149,7 @@ impl Tally {
             *sum += count;
         }
         self.compared += other.compared;
+        self.unframed += other.unframed;
         self.outside += other.outside;
         self.beyond += other.beyond;
         self.differences += other.differences;
@@ -123,23 +157,24 @@ impl Tally {
     }
 
     pub fn header() -> String {
-        let counts = ["inputs", "inside", "compared", "outside", "beyond", "differences"];
+        let counts = ["inputs", "inside", "compared", "unframed", "outside", "beyond", "differences"];
         row("class", counts, "inputs not inside, by reason")
     }
 
     pub fn line(&self, name: &str) -> String {
         let inside = self.inputs - self.reasons.iter().sum::<u64>();
-        let counts = [self.inputs, inside, self.compared, self.outside, self.beyond, self.differences];
+        let Tally { inputs, compared, unframed, outside, beyond, differences, .. } = *self;
+        let counts = [inputs, inside, compared, unframed, outside, beyond, differences];
         let named = REASONS.iter().zip(self.reasons).filter(|(_, count)| *count > 0);
         let reasons: Vec<String> = named.map(|((_, reason), count)| format!("{count} {reason}")).collect();
         row(name, counts, &reasons.join(", "))
     }
 }
 
-fn row<T: Display>(name: &str, counts: [T; 6], reasons: &str) -> String {
-    let [inputs, inside, compared, outside, beyond, differences] = counts;
-    let row = format!(
-        "{name:<17} {inputs:>10} {inside:>10} {compared:>11} {outside:>8} {beyond:>11} {differences:>11}  {reasons}"
-    );
+fn row<T: Display>(name: &str, counts: [T; 7], reasons: &str) -> String {
+    let [inputs, inside, compared, unframed, outside, beyond, differences] = counts;
+    let counted =
+        format!("{inputs:>10} {inside:>10} {compared:>11} {unframed:>11} {outside:>9} {beyond:>11}");
+    let row = format!("{name:<17} {counted} {differences:>11}  {reasons}");
     row.trim_end().into()
 }

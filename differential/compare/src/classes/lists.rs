@@ -5,22 +5,37 @@ use crate::content::entry;
 use crate::frame::{frame, written, Trailer, FILE_META, TRAILERS, WIDTHS};
 use crate::random::Random;
 
+type UseList<'a> = &'a mut dyn FnMut(u8, &[u8]);
+
+const LONGEST_LIST: usize = 65_528;
+
 pub fn lists(count: usize, use_input: Use) {
-    regular(use_input);
-    small(use_input);
-    long(use_input);
+    fixed(&mut |count, list| {
+        if list.len() <= LONGEST_LIST {
+            let mut bytes = Vec::new();
+            written(&mut bytes, FILE_META, &[&[0, count], list].concat());
+            use_input(&bytes);
+        }
+    });
     random_lists(count, use_input);
 }
 
+/// Lists with a count that is stated, rightly or wrongly; some are longer than any that is written.
+pub fn fixed(use_list: UseList) {
+    regular(use_list);
+    small(use_list);
+    long(use_list);
+}
+
 /// Up to four entries with names of one length, cut at every byte, with every count near their number.
-fn regular(use_input: Use) {
+fn regular(use_list: UseList) {
     for name in [0, 1, 2, 5] {
         for entries in 0..=4usize {
             let one = [&[0x34, 0x12, name as u8], &[b'r'; 5][..name]].concat();
             let list = [&one.repeat(entries)[..], &[0x80, 0x00, 0x02, 0xff]].concat();
             for end in 0..=list.len() {
                 for count in (0..=entries + 2).chain([255]) {
-                    use_list(count as u8, &list[..end], use_input);
+                    use_list(count as u8, &list[..end]);
                 }
             }
         }
@@ -28,28 +43,26 @@ fn regular(use_input: Use) {
 }
 
 /// All lists of up to five bytes out of a few.
-fn small(use_input: Use) {
+fn small(use_list: UseList) {
     const BYTES: [u8; 6] = [0, 1, 2, 3, 4, 255];
     for length in 0..=5u32 {
         for choice in 0..BYTES.len().pow(length) {
             let byte = |place| BYTES[choice / BYTES.len().pow(place) % BYTES.len()];
             let list: Vec<u8> = (0..length).map(byte).collect();
-            (0..=3).for_each(|count| use_list(count, &list, use_input));
+            (0..=3).for_each(|count| use_list(count, &list));
         }
     }
 }
 
 /// As many entries as a count can tell, and about as many.
-fn long(use_input: Use) {
+fn long(use_list: UseList) {
     for entries in 253..=257 {
         for name in [0, 1, 255] {
             let one = [&[0xff, 0x7f, name as u8], &[b'r'; 255][..name]].concat();
             let list = one.repeat(entries);
             for count in [0, 1, 253, 254, 255] {
                 for cut in [0, 1, name + 1, name + 3] {
-                    if list.len() - cut <= 65_528 {
-                        use_list(count, &list[..list.len() - cut], use_input);
-                    }
+                    use_list(count, &list[..list.len() - cut]);
                 }
             }
         }
@@ -76,10 +89,4 @@ fn random_lists(count: usize, use_input: Use) {
         }
         use_input(&bytes);
     }
-}
-
-fn use_list(count: u8, list: &[u8], use_input: Use) {
-    let mut bytes = Vec::new();
-    written(&mut bytes, FILE_META, &[&[0, count], list].concat());
-    use_input(&bytes);
 }

@@ -1,10 +1,13 @@
-//! The inputs, class by class. Each class hands its inputs to `use_input`, in the same order in every run.
+//! The inputs, class by class. Each class hands its inputs to `use_input`, in the same order in every run. An input is
+//! bytes to be read; in the classes of `writing`, a row of records to be written.
 
 mod kinds;
 mod lists;
 mod names;
 mod sizes;
 pub mod traces;
+mod trailers;
+pub mod writing;
 
 use crate::frame::{self, KINDS};
 use kinds::{kinds, lengths, magic, tag_rows, tags};
@@ -12,12 +15,13 @@ use lists::lists;
 use names::names;
 use sizes::sizes;
 use traces::{damaged, emitted, random_strings, written};
+use trailers::trailers;
 
-pub type Use<'a> = &'a mut dyn FnMut(&[u8]);
+pub type Use<'a, T = [u8]> = &'a mut dyn FnMut(&T);
 
-pub struct Class {
+pub struct Class<T: ?Sized = [u8]> {
     pub name: &'static str,
-    make: fn(usize, Use),
+    make: fn(usize, Use<T>),
     /// How many inputs are asked for in the bounded and in the long run. A class that has an end of its own takes
     /// this for how fine it is.
     bounded: usize,
@@ -32,18 +36,23 @@ pub enum Run {
     Long,
 }
 
-impl Class {
-    pub fn make(&self, run: Run, use_input: Use) {
+impl<T: ?Sized> Class<T> {
+    pub fn make(&self, run: Run, use_input: Use<T>) {
         let amount = if run == Run::Long { self.long } else { self.bounded };
         (self.make)(amount, use_input);
     }
 }
 
-const fn class(name: &'static str, make: fn(usize, Use), [bounded, long]: [usize; 2], kept: usize) -> Class {
+const fn class<T: ?Sized>(
+    name: &'static str,
+    make: fn(usize, Use<T>),
+    [bounded, long]: [usize; 2],
+    kept: usize,
+) -> Class<T> {
     Class { name, make, bounded, long, kept }
 }
 
-pub const CLASSES: [Class; 15] = [
+pub const CLASSES: [Class; 16] = [
     class("examples", examples, [1, 1], 99),
     class("up to three bytes", up_to_three, [1, 1], 300),
     class("four bytes", four, [1, 2], 100),
@@ -55,6 +64,7 @@ pub const CLASSES: [Class; 15] = [
     class("names", names, [1, 20], 300),
     class("register lists", lists, [300_000, 10_000_000], 300),
     class("large contents", sizes, [1, 2], 60),
+    class("trailers", trailers, [1, 10], 0),
     class("written traces", written, [500_000, 10_000_000], 250),
     class("emitted traces", emitted, [200_000, 5_000_000], 250),
     class("damaged traces", damaged, [3_000_000, 60_000_000], 350),
@@ -87,7 +97,7 @@ const EXAMPLES: &[&str] = &[
 ];
 
 /// Names of which document 01 says that two pass and three do not.
-const NAMES: [&[u8]; 5] =
+pub const NAMES: [&[u8]; 5] =
     [b"\xe2\x82\xac", b"\xf4\x8f\xbf\xbf", b"\xc0\x80", b"\xed\xa0\x80", b"\xf4\x90\x80\x80"];
 
 fn examples(_: usize, use_input: Use) {

@@ -8,31 +8,45 @@ const SECONDS: [u8; 12] = [0x00, 0x41, 0x7f, 0x80, 0x8f, 0x90, 0x9f, 0xa0, 0xbf,
 const TAILS: [u8; 5] = [0x00, 0x7f, 0x80, 0xbf, 0xc0];
 const ADDRESS: [u8; 8] = [1, 2, 3, 4, 5, 6, 7, 8];
 
+/// Characters at the borders of each size.
+pub const CHARACTERS: [&str; 11] = [
+    "a",
+    "\u{7f}",
+    "\u{80}",
+    "\u{7ff}",
+    "\u{800}",
+    "\u{d7ff}",
+    "\u{e000}",
+    "\u{20ac}",
+    "\u{ffff}",
+    "\u{10000}",
+    "\u{10ffff}",
+];
+
 pub fn names(fine: usize, use_input: Use) {
-    let everything: Vec<u8> = (0..=255).collect();
-    let seconds = if fine > 1 { &everything[..] } else { &SECONDS };
-    for lead in 0..=255u8 {
-        for &second in seconds {
-            sequences(lead, second, use_input);
+    sequences(fine, &mut |sequence| {
+        for start in [0, 5, 28, 29, 30, 31] {
+            let mut field = [b'a'; 32];
+            let end = 32.min(start + 4);
+            field[start..end].copy_from_slice(&sequence[..end - start]);
+            use_field(&field, &ADDRESS, use_input);
         }
-    }
+    });
     lengths(use_input);
     sizes(use_input);
     texts(fine * 30_000, use_input);
 }
 
-/// Two bytes and, where a longer character may begin, two more.
-fn sequences(lead: u8, second: u8, use_input: Use) {
-    let thirds = if lead >= 0xe0 { &TAILS[..] } else { &TAILS[1..2] };
-    let fourths = if lead >= 0xf0 { &TAILS[..] } else { &TAILS[1..2] };
-    for &third in thirds {
-        for &fourth in fourths {
-            for start in [0, 5, 28, 29, 30, 31] {
-                let mut field = [b'a'; 32];
-                let end = 32.min(start + 4);
-                let sequence = [lead, second, third, fourth];
-                field[start..end].copy_from_slice(&sequence[..end - start]);
-                use_field(&field, &ADDRESS, use_input);
+/// Two bytes and, where a longer character may begin, two more that matter.
+pub fn sequences(fine: usize, use_sequence: Use) {
+    let everything: Vec<u8> = (0..=255).collect();
+    let seconds = if fine > 1 { &everything[..] } else { &SECONDS };
+    for lead in 0..=255u8 {
+        let thirds = if lead >= 0xe0 { &TAILS[..] } else { &TAILS[1..2] };
+        let fourths = if lead >= 0xf0 { &TAILS[..] } else { &TAILS[1..2] };
+        for &second in seconds {
+            for &third in thirds {
+                fourths.iter().for_each(|&fourth| use_sequence(&[lead, second, third, fourth]));
             }
         }
     }
@@ -40,19 +54,7 @@ fn sequences(lead: u8, second: u8, use_input: Use) {
 
 /// Every length of name from characters of each size, and what stands behind the zero is not looked at.
 fn lengths(use_input: Use) {
-    for character in [
-        "a",
-        "\u{7f}",
-        "\u{80}",
-        "\u{7ff}",
-        "\u{800}",
-        "\u{d7ff}",
-        "\u{e000}",
-        "\u{20ac}",
-        "\u{ffff}",
-        "\u{10000}",
-        "\u{10ffff}",
-    ] {
+    for character in CHARACTERS {
         let text = character.repeat(32);
         for length in 0..=32 {
             for behind in [0, b'a', 0x80, 0xff] {

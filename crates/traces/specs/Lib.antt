@@ -1,0 +1,2 @@
+pub mod Positions
+pub mod Traces

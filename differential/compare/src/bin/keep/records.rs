@@ -1,0 +1,107 @@
+//! Records to be written, and what the original emits of each.
+
+use crate::{tag, tags, Lines, LONGEST_INPUT};
+use compare::answer::FlatRecord;
+use compare::given::Given;
+use compare::hex::tokens;
+use compare::types::{Slice, Type, MAP, TYPES};
+use compare::writing::emit;
+use std::collections::BTreeSet;
+
+/// Sizes of content that every type has which grows; and one that only a Map has.
+const SIZES: [usize; 6] = [252, 253, 254, 255, 256, 65_530];
+const LONG_MAP: usize = 65_539;
+const LONGEST_NAME: usize = 32;
+
+/// A record that is kept for what it shows takes lines of so many bytes at most.
+const SHORT_LINE: usize = 120;
+
+#[derive(Default)]
+pub struct Records {
+    kept: BTreeSet<Given>,
+    shown: BTreeSet<Shows>,
+}
+
+/// What a record is an example of.
+#[derive(Clone, Copy, Debug, PartialEq, Eq, PartialOrd, Ord)]
+enum Shows {
+    /// A type, with the tag where there is one.
+    Type(u64, u64),
+    /// A type with so many content bytes.
+    Size(u64, usize),
+    /// A type with one of its numbers as large as can be.
+    Largest(u64, usize),
+    /// A name of so many bytes.
+    Name(usize),
+}
+
+impl Records {
+    /// Keeps a record that shows something new.
+    pub fn keep_new(&mut self, given: &Given, lines: &mut Lines) {
+        if shows(given).iter().any(|shows| !self.shown.contains(shows)) {
+            self.keep(given, SHORT_LINE, lines);
+        }
+    }
+
+    /// False where the record is not kept: too long, outside the domain, or there already.
+    pub fn keep(&mut self, given: &Given, longest: usize, lines: &mut Lines) -> bool {
+        let mut bytes = Vec::new();
+        let known = given.bytes.len() > LONGEST_INPUT || self.kept.contains(given);
+        if known || emit(given, &mut bytes).outside.is_some() {
+            return false;
+        }
+        let FlatRecord { record_type, numbers: [n0, n1, n2] } = given.record;
+        let call = format!("w {record_type} {n0} {n1} {n2} {}", tokens(&given.bytes));
+        if !lines.add(call, tokens(&bytes), longest) {
+            return false;
+        }
+        self.kept.insert(given.clone());
+        self.shown.extend(shows(given));
+        true
+    }
+
+    /// Everything that must be among them is.
+    pub fn complete(&self) {
+        for kind in &TYPES {
+            tags(kind.number).for_each(|tag| self.has(Shows::Type(kind.number, tag)));
+            sizes(kind).for_each(|size| self.has(Shows::Size(kind.number, size)));
+            (0..kind.bits.len()).for_each(|place| self.has(Shows::Largest(kind.number, place)));
+        }
+        (0..=LONGEST_NAME).for_each(|length| self.has(Shows::Name(length)));
+    }
+
+    fn has(&self, shows: Shows) {
+        assert!(self.shown.contains(&shows), "no record is written that shows {shows:?}");
+    }
+
+    pub fn count(&self) -> usize {
+        self.kept.len()
+    }
+}
+
+fn shows(given: &Given) -> Vec<Shows> {
+    let FlatRecord { record_type, numbers } = given.record;
+    let Some(kind) = given.kind() else {
+        return Vec::new();
+    };
+    let mut shows = vec![Shows::Type(record_type, tag(record_type, numbers))];
+    let size = kind.head() + given.bytes.len();
+    if sizes(kind).any(|shown| shown == size) {
+        shows.push(Shows::Size(record_type, size));
+    }
+    for (place, bits) in kind.bits.iter().enumerate() {
+        if numbers[place] == u64::MAX >> (64 - bits) {
+            shows.push(Shows::Largest(record_type, place));
+        }
+    }
+    if kind.slice == Slice::Name {
+        shows.push(Shows::Name(given.bytes.len()));
+    }
+    shows
+}
+
+fn sizes(kind: &Type) -> impl Iterator<Item = usize> {
+    let all = if kind.grows() { &SIZES[..] } else { &[] };
+    let long = if kind.number == MAP { Some(LONG_MAP) } else { None };
+    all.iter().copied().chain(long)
+}

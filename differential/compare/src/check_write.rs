@@ -1,0 +1,124 @@
+//! Everything that is compared for a row of records that are written.
+
+use crate::ours;
+use crate::tally::Tally;
+use compare::answer::FlatRecord;
+use compare::given::Given;
+use compare::hex::tokens;
+use compare::source::{self, Said};
+use compare::writing::{emit, write};
+use std::fmt::{Debug, Formatter};
+use std::hint::black_box;
+
+const LAST: usize = usize::MAX;
+
+/// How many bytes, which are not lent, lie on each side of the output.
+const AROUND: usize = 16;
+
+/// The row where there is room for it, and where there is not.
+pub fn check(row: &[Given], tally: &mut Tally) {
+    let length = row.iter().map(length).sum();
+    let position = tally.turn(&[0, 0, 1, 21]);
+    let behind = tally.turn(&[0, 0, 1, 21]);
+    write_row(row, position, position + length + behind, tally);
+    let (position, room) = too_little(position, length, tally);
+    write_row(row, position, room, tally);
+}
+
+/// The length of a record as the original emits it; of one that is refused, more than it would have.
+fn length(given: &Given) -> usize {
+    let mut emitted = Vec::new();
+    match emit(given, &mut emitted).outside {
+        None => emitted.len(),
+        Some(_) => given.bytes.len() + 60,
+    }
+}
+
+/// A position and a room, by turns: one byte is missing; some are; the position is the end; nothing is lent; the position
+/// is beyond the end.
+fn too_little(position: usize, length: usize, tally: &mut Tally) -> (usize, usize) {
+    let some = tally.random().below(length);
+    let less = (position, position + length - 1);
+    tally.turn(&[
+        less,
+        less,
+        (position, position + some),
+        (position, position),
+        (0, 0),
+        (position + 1, position),
+        (position + length, position + length - 1),
+        (LAST - some, position + length),
+        (LAST, position + length),
+    ])
+}
+
+/// Each record at the position that ours handed back, up to the first difference.
+fn write_row(row: &[Given], mut position: usize, room: usize, tally: &mut Tally) {
+    let mut output = Output::new(position, room, tally);
+    for given in row {
+        tally.begin(&given.bytes);
+        let next = output.write(given, position, tally);
+        tally.end(&given.bytes);
+        match next {
+            Some(next) => position = next,
+            None => return,
+        }
+    }
+}
+
+struct Output {
+    room: usize,
+    /// The original's output: what stood before the first position, and what it emitted.
+    trace: Vec<u8>,
+    /// What must stand in ours, with the bytes around it; and what does.
+    must: Vec<u8>,
+    now: Vec<u8>,
+}
+
+impl Output {
+    fn new(position: usize, room: usize, tally: &mut Tally) -> Self {
+        let mut must = Vec::new();
+        tally.random().bytes(AROUND + room + AROUND, &mut must);
+        let before = must[AROUND..AROUND + room].get(..position).unwrap_or(&[]);
+        Output { room, trace: before.into(), now: must.clone(), must }
+    }
+
+    /// Writes one record; the next position, where all is as it must be.
+    fn write(&mut self, given: &Given, position: usize, tally: &mut Tally) -> Option<usize> {
+        let said = write(given, self.room, position, &mut self.trace);
+        let frame = self.trace.get(position..).unwrap_or(&[]);
+        let next = position + frame.len();
+        if said.outside.is_none() {
+            // The rule for reading backwards finds what the original emits.
+            assert!(source::start(&self.trace, next) == Ok(position), "a trailer that leads elsewhere");
+            let place = AROUND + position..AROUND + next;
+            self.must[place.clone()].copy_from_slice(frame);
+            // Before the call, every byte is another than the one to be written.
+            self.now[place].iter_mut().zip(frame).for_each(|(now, byte)| *now = !byte);
+        }
+        let mut record = given.record;
+        let (number, ours_next) = ours::write(&mut self.now, AROUND, position, &mut record, &given.bytes);
+        let ours = Written { number, next: ours_next, record: black_box(record), out: &self.now };
+        let says = Written { number: said.says, next: next as u64, record: given.record, out: &self.must };
+        let what = format_args!("write {:?} into {} bytes, position", given.record, self.room);
+        let said = Said { says, outside: said.outside };
+        tally.hold(what, position as u64, &said, &ours).then_some(next)
+    }
+}
+
+/// The state after a call.
+#[derive(PartialEq)]
+struct Written<'a> {
+    number: u64,
+    next: u64,
+    record: FlatRecord,
+    out: &'a [u8],
+}
+
+impl Debug for Written<'_> {
+    fn fmt(&self, f: &mut Formatter) -> std::fmt::Result {
+        let Written { number, next, record, out } = self;
+        write!(f, "{number}, next {next}, {record:?}, output with {AROUND} bytes around it ")?;
+        f.write_str(&tokens(out))
+    }
+}

@@ -1,0 +1,87 @@
+//! Contents of every length up to forty, and about the borders of the frames; and every tag.
+
+use super::Give;
+use crate::given::Given;
+use crate::random::Random;
+use crate::types::{Slice, Type, MAP, TYPES};
+
+const FILLS: [u8; 3] = [0x61, 0x00, 0xff];
+
+const SIZES: [usize; 16] =
+    [250, 251, 252, 253, 254, 255, 256, 257, 258, 65_528, 65_529, 65_530, 65_531, 65_532, 65_536, 70_000];
+const MAPS: [usize; 6] = [65_531, 65_535, 65_536, 65_544, 131_072, 1_000_000];
+
+/// Every type: bytes that it takes, `fine` times, and any bytes.
+pub fn contents(fine: usize, give: Give) {
+    let mut random = Random::new(13);
+    for kind in &TYPES {
+        for length in 0..=40 {
+            for fill in FILLS {
+                give(&[Given::raw(&mut random, kind, &vec![fill; length])]);
+            }
+            for _ in 0..fine {
+                give(&[Given::good(&mut random, kind, length)]);
+            }
+            for _ in 0..fine.div_ceil(10) {
+                let mut bytes = Vec::new();
+                random.bytes(length, &mut bytes);
+                give(&[Given::raw(&mut random, kind, &bytes)]);
+            }
+        }
+    }
+}
+
+/// Every type whose content grows, at the sizes of content where the frame changes; and larger Maps. A type whose
+/// content does not is handed as many bytes.
+pub fn sizes(fine: usize, give: Give) {
+    let mut random = Random::new(14);
+    for kind in &TYPES {
+        let head = if kind.grows() { kind.head() } else { 0 };
+        for size in SIZES {
+            fills(&mut random, size - head, &mut |random, bytes| {
+                give(&[Given::raw(random, kind, bytes)]);
+                refused(random, kind, bytes, give);
+            });
+        }
+    }
+    let map = Type::find(MAP).expect("Map");
+    for size in MAPS.into_iter().cycle().take(MAPS.len() * fine) {
+        fills(&mut random, size, &mut |random, bytes| give(&[Given::raw(random, map, bytes)]));
+    }
+}
+
+/// Random bytes; and one byte over and over, behind a few others.
+fn fills(random: &mut Random, length: usize, use_bytes: &mut dyn FnMut(&mut Random, &[u8])) {
+    for fill in FILLS {
+        let mut bytes = vec![fill; length];
+        bytes[..4].copy_from_slice(&[5, 0, 1, b'r']);
+        use_bytes(random, &bytes);
+    }
+    let mut bytes = Vec::new();
+    random.bytes(length, &mut bytes);
+    use_bytes(random, &bytes);
+}
+
+/// A tag that is taken, or a list that holds one entry less than it counts.
+fn refused(random: &mut Random, kind: &Type, bytes: &[u8], give: Give) {
+    let mut given = Given::raw(random, kind, bytes);
+    let number = &mut given.record.numbers[0];
+    match kind.slice {
+        Slice::Unknown(least) => *number = random.below(least as usize) as u64,
+        Slice::List if *number < 255 => *number += 1,
+        _ => return,
+    }
+    give(&[given]);
+}
+
+/// Every tag of the unknown types, also those that are taken.
+pub fn tags(fine: usize, give: Give) {
+    for number in [21, 4] {
+        for tag in 0..=255 {
+            for length in (2..2 + fine).chain([0, 1]) {
+                let bytes: Vec<u8> = (1..=length).map(|place| (tag as usize + place) as u8).collect();
+                give(&[Given::new(number, [tag, 0, 0], &bytes)]);
+            }
+        }
+    }
+}

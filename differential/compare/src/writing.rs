@@ -1,0 +1,149 @@
+//! What the original Rust emits; and where a record to be written lies outside the domain of document 01.
+
+use crate::answer::FlatRecord;
+use crate::frame::{frame, Trailer, FILE_META, META};
+use crate::given::{entries, Given};
+use crate::panics::caught;
+use crate::source::{self, Outside, Said};
+use crate::types::{self, Slice, Type};
+use dynamic_trace::record::*;
+use dynamic_trace::RawRecord;
+
+const BEYOND_END: u64 = 8;
+const NO_ROOM: u64 = 9;
+const LONG_CONTENT: u64 = 10;
+const BAD_NAME: u64 = 11;
+const TAKEN_TAG: u64 = 12;
+const SHORT_LIST: u64 = 13;
+const NOT_A_RECORD: u64 = 256;
+
+const LONGEST_CONTENT: usize = 65_530;
+const LONGEST_MAP: usize = 4_294_967_282;
+
+/// Writes at `position` of an output of `room` bytes: says 0, and the original's bytes are appended to `trace`; or the
+/// refusal, and nothing is.
+pub fn write(given: &Given, room: usize, position: usize, trace: &mut Vec<u8>) -> Said<u64> {
+    let before = trace.len();
+    let said = emit(given, trace);
+    let length = trace.len() - before;
+    let refused = match said.says {
+        NOT_A_RECORD => return said,
+        _ if position > room => Said::outside(BEYOND_END, Outside::Position),
+        0 if length > room - position => Said::outside(NO_ROOM, Outside::Room),
+        _ => return said,
+    };
+    trace.truncate(before);
+    refused
+}
+
+/// The same, where there is room enough.
+pub fn emit(given: &Given, trace: &mut Vec<u8>) -> Said<u64> {
+    let Some(kind) = given.kind() else {
+        return Said::outside(NOT_A_RECORD, Outside::NotARecord);
+    };
+    let before = trace.len();
+    let done = caught(|| original(given, trace));
+    let kept = done == Some(true) && reads_back(kind, given, &trace[before..]);
+    let said = match refusal(kind, given) {
+        None if kept => return Said::inside(0),
+        // It panics.
+        Some((LONG_CONTENT, why)) if done.is_none() => Said::outside(LONG_CONTENT, why),
+        // It does not take it, or reads something else back.
+        Some((number, why)) if number != LONG_CONTENT && !kept => Said::outside(number, why),
+        refusal => Said::outside(refusal.map_or(0, |(number, _)| number), Outside::Unforeseen),
+    };
+    trace.truncate(before);
+    said
+}
+
+/// Document 01's refusals that lie in the record: 11, 12 or 13, then 10.
+fn refusal(kind: &Type, given: &Given) -> Option<(u64, Outside)> {
+    let (bytes, number) = (&given.bytes[..], given.record.numbers[0]);
+    let longest = match kind.slice {
+        Slice::Ignored => return None,
+        Slice::Name if bytes.len() <= 32 && !bytes.contains(&0) && std::str::from_utf8(bytes).is_ok() => {
+            return None;
+        }
+        Slice::Name => return Some((BAD_NAME, Outside::Name)),
+        Slice::Unknown(least) if number < least => return Some((TAKEN_TAG, Outside::Tag)),
+        Slice::List if (entries(bytes).0.len() as u64) < number => return Some((SHORT_LIST, Outside::List)),
+        _ if kind.number == types::MAP => LONGEST_MAP,
+        _ => LONGEST_CONTENT - kind.head(),
+    };
+    (bytes.len() > longest).then_some((LONG_CONTENT, Outside::Long))
+}
+
+/// Whether the original shows again what was given.
+fn reads_back(kind: &Type, given: &Given, emitted: &[u8]) -> bool {
+    let shown = source::parse(emitted).says;
+    let count = kind.bits.len();
+    let bytes = &emitted[shown.bytes_start as usize..shown.bytes_end as usize];
+    shown.record_type == kind.number
+        && shown.numbers[..count] == given.record.numbers[..count]
+        && (kind.slice == Slice::Ignored || bytes == given.bytes)
+}
+
+/// Has the original emit it; false where it cannot make such a record.
+fn original(given: &Given, out: &mut Vec<u8>) -> bool {
+    let mut frame = Vec::new();
+    match record(given, &mut frame) {
+        Some(record) => {
+            record.emit(out, emit_le64);
+            true
+        }
+        None => false,
+    }
+}
+
+/// The record as the original makes it. Unknown types, and lists that are more than their entries, it makes only by
+/// reading them in `frame`.
+fn record<'a>(given: &'a Given, frame: &'a mut Vec<u8>) -> Option<Record<'a>> {
+    let FlatRecord { record_type, numbers: [a, b, c] } = given.record;
+    let data = &given.bytes[..];
+    let record = match record_type {
+        1 => Record::Magic,
+        3 => match entries(data) {
+            (entries, []) if entries.len() as u64 == a => RegisterNameMap::new(entries.into_iter()).into(),
+            _ => parsed(FILE_META, &[0, a as u8], data, frame)?,
+        },
+        4 => parsed(FILE_META, &[a as u8], data, frame)?,
+        5 => Map::new(a, data).into(),
+        6 => Unmap::new(a, b).into(),
+        7 => Instruction::new(a, data).into(),
+        8 => Pc::new(a).into(),
+        21 => parsed(META, &[a as u8], data, frame)?,
+        22 => Interrupt::new(a as u32, b).into(),
+        23 => RegRead::new(a as u32, data).into(),
+        24 => RegWrite::new(a as u32, data).into(),
+        25 => RegWriteNative::new(a as u16, data).into(),
+        26 => MemRead::new(a, data).into(),
+        27 => MemWrite::new(a, data).into(),
+        _ => meta(record_type, [a, b, c], data)?.into(),
+    };
+    Some(record)
+}
+
+fn meta(record_type: u64, [a, b, c]: [u64; 3], data: &[u8]) -> Option<Meta<'static>> {
+    let meta = match record_type {
+        9 => Meta::InstructionCount(InstructionCount::new(a)),
+        10 => Meta::ThreadId(ThreadId::new(a as u32)),
+        11 => Meta::ProcessId(ProcessId::new(a)),
+        12 => Meta::CallBegin(CallBegin::new(String::from_utf8(data.into()).ok()?, a)),
+        13 => Meta::CallModeledOpsEnd(CallModeledOpsEnd::new()),
+        14 => Meta::CallEnd(CallEnd::new(a)),
+        15 => Meta::OperandUncertain(OperandUncertain::new()),
+        16 => Meta::AddressDependencyEdge(AddressDependencyEdge::new(a)),
+        17 => Meta::RegisterDependencyEdge(RegisterDependencyEdge::new(a as u32)),
+        18 => Meta::MemoryAllocated(MemoryAllocated::new(a, b as u32)),
+        19 => Meta::MemoryFreed(MemoryFreed::new(a, b as u32)),
+        20 => Meta::MemoryReallocated(MemoryReallocated::new(a, b, c as u32)),
+        _ => return None,
+    };
+    Some(meta)
+}
+
+/// What the original shows of this content.
+fn parsed<'a>(kind: u8, head: &[u8], data: &[u8], out: &'a mut Vec<u8>) -> Option<Record<'a>> {
+    frame(out, kind, 4, &[head, data].concat(), Trailer::Five);
+    RawRecord::new(out).parse(parse_le64).ok()
+}
