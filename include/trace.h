@@ -147,8 +147,10 @@ struct aglimtaq_record {
 /* Writes a record at `position` of `out`; its name, register list or contents are the `length` bytes at
  * `bytes`, which a type that has none does not look at. 0, and the position behind the record, where the
  * next call writes; or why it is refused, and the same position: then no byte of `out` is altered. The
- * first call writes at 0. NOT_A_RECORD where a number has more bits than its type: 8 a count or a tag, 16
- * a native register, 32 a register, a thread, an interrupt or a size, 64 every other. */
+ * first call writes at 0. Of several reasons the first is given: NOT_A_RECORD; BEYOND_END; BAD_NAME,
+ * TAKEN_TAG or SHORT_LIST; LONG_CONTENT; NO_ROOM. NOT_A_RECORD where a number has more bits than its type:
+ * 8 a count or a tag, 16 a native register, 32 a register, a thread, an interrupt or a size, 64 every
+ * other. */
 uint64_t aglimtaq_write(uint8_t *out, size_t room, size_t position, const struct aglimtaq_record *record,
                         const uint8_t *bytes, size_t length, uint64_t *next);
 
