@@ -1,0 +1,24 @@
+// The ride once more, with errors that were made in the store: five bytes are others, and the end is lost.
+// Every length is as it was, so each error costs one record. Places are the ride's.
+use crate::bytes::cut;
+use crate::bytes::spoil;
+use crate::ride::ride;
+use crate::trace::Trace;
+
+// Magic with 64 for 65: refused with 3. ThreadId with tag 00 for 01, which wants more content: 4. MemRead
+// with first byte 89 for 81, of an unknown kind: 7. 'memcpy' with ff for 'm', which is not text: 5.
+// OperandUncertain with trailer 00 for 03, which would be five bytes: 2.
+fn spoil_all(out: &mut [u8]) {
+    spoil(out, 2, 0x64);
+    spoil(out, 125, 0x00);
+    spoil(out, 448, 0x89);
+    spoil(out, 586, 0xff);
+    spoil(out, 648, 0x00);
+}
+
+// Of the last record, which has 19 bytes, eight are left.
+pub(crate) fn damaged(out: &mut [u8]) -> Trace {
+    let t = ride(out);
+    spoil_all(out);
+    cut(t, 11)
+}

@@ -1,0 +1,72 @@
+/* Writes each example of docs/FORMAT.md and its trace 'small' through include/trace.h, and prints their names
+ * and bytes. */
+#include "trace.h"
+
+#include <stdio.h>
+#include <string.h>
+
+static uint8_t out[70000];
+static uint8_t filled[70000];
+
+static void print_bytes(const char *name, uint64_t length)
+{
+    printf("%s: ", name);
+    for (uint64_t i = 0; i < length; i++)
+        printf("%02x", (unsigned)out[i]);
+    printf("\n");
+}
+
+/* A record at a place of the output, and the place behind it; a refused one is said. */
+static uint64_t put(uint64_t at, uint64_t type, uint64_t first, uint64_t second, const void *bytes, size_t length)
+{
+    struct aglimtaq_record record = {type, {first, second, 0}};
+    uint64_t next = 0;
+    uint64_t answer = aglimtaq_write(out, sizeof out, at, &record, bytes, length, &next);
+    if (answer != 0)
+        printf("type %llu refused with %llu\n", (unsigned long long)type, (unsigned long long)answer);
+    return next;
+}
+
+static void example(const char *name, uint64_t type, uint64_t first, uint64_t second, const void *bytes,
+                    size_t length)
+{
+    print_bytes(name, put(0, type, first, second, bytes, length));
+}
+
+/* An Instruction whose content has so many bytes, eight of them the address. */
+static void content_of(const char *name, size_t length)
+{
+    example(name, AGLIMTAQ_INSTRUCTION, 0x1000, 0, filled, length - 8);
+}
+
+/* The record of an unknown kind is not written by the codec. */
+static void small_trace(void)
+{
+    uint64_t at = put(0, AGLIMTAQ_MAGIC, 0, 0, "", 0);
+    at = put(at, AGLIMTAQ_REGISTER_NAME_MAP, 2, 0, "\0\0\2r0\1\0\2pc", 10);
+    at = put(at, AGLIMTAQ_THREAD_ID, 5, 0, "", 0);
+    at = put(at, AGLIMTAQ_PC, 0x1000, 0, "", 0);
+    at = put(at, AGLIMTAQ_INSTRUCTION, 0x1000, 0, "\1!", 2);
+    at = put(at, AGLIMTAQ_REG_WRITE_NATIVE, 0, 0, "\1\0\0\0", 4);
+    at = put(at, AGLIMTAQ_MEM_WRITE, 0x2000, 0, "", 0);
+    memcpy(out + at, "\x09\x02\xaa\x03", 4);
+    print_bytes("small", put(at + 4, AGLIMTAQ_INTERRUPT, 3, 258, "", 0));
+}
+
+int main(void)
+{
+    memset(filled, 0x90, sizeof filled);
+    example("magic", AGLIMTAQ_MAGIC, 0, 0, "", 0);
+    example("instruction", AGLIMTAQ_INSTRUCTION, 0x1000, 0, "", 0);
+    example("interrupt", AGLIMTAQ_INTERRUPT, 3, 258, "", 0);
+    example("map", AGLIMTAQ_MAP, 0x2000, 0, "", 0);
+    example("call-begin", AGLIMTAQ_CALL_BEGIN, 0x1000, 0, "\xe2\x82\xac", 3);
+    example("register-name-map", AGLIMTAQ_REGISTER_NAME_MAP, 2, 0, "\0\0\2r0\1\0\2pc", 10);
+    example("reg-write-native", AGLIMTAQ_REG_WRITE_NATIVE, 1, 0, "\2\x10\0\0", 4);
+    example("reg-write", AGLIMTAQ_REG_WRITE, 1, 0, "\2\x10\0\0", 4);
+    content_of("content-253", 253);
+    content_of("content-254", 254);
+    content_of("content-65530", 65530);
+    small_trace();
+    return 0;
+}
