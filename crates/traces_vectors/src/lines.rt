@@ -1,0 +1,24 @@
+// What the lines of this program are made of.
+use crate::slices::part;
+
+// Numbers, each behind a space, and what stands before and behind them.
+pub(crate) fn numbers(before: &[u8], n: &[u64], behind: &[u8]) {
+    print::text(before);
+    let mut i = 0;
+    while i < n.len() {
+        print::labelled(b" ", n[i]);
+        i = i + 1;
+    }
+    print::text(behind);
+}
+
+// Up to 44 bytes; of more the first three and the last five.
+pub(crate) fn edges(s: &[u8]) {
+    print::text(b"; ");
+    if s.len() <= 44 {
+        return print::bytes(s);
+    }
+    print::bytes(part(s, 0, 3));
+    print::text(b".. ");
+    print::bytes(part(s, s.len() - 5, 5));
+}
