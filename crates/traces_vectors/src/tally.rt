@@ -34,7 +34,7 @@ const WANTED: usize = 19;
 // Calls that the codec accepted; behind it those refused with 8, with 9, and so on to 13.
 const ACCEPTED: usize = 20;
 
-pub(crate) fn add(tally: &mut [u64], i: usize, n: u64) {
+fn add(tally: &mut [u64], i: usize, n: u64) {
     let sum = wrapping_add_u64(get(tally, i), n);
     put(tally, i, sum);
 }
