@@ -4,7 +4,7 @@ use mathlib.Core.List.{List, [], _∷_, _++_}
 use Prim.Native.Nat.{ℕ, zero, suc, _+_, _-_, _≤_}
 use native.Mathlib.Omega.{arith}
 use lib.ListN.{length, take, drop, length-drop, length-take}
-use lib.Seq.{take-all, take-add, take-take, drop-drop, getD-drop, drop-append-le, take-append-le, take-at, drop-at}
+use lib.Seq.{take-all, take-add, take-take, drop-drop, getD-drop, take-at, drop-at}
 use Rattle.numbers.specs.Lists.{Bytes, part}
 
 -- the rest of a slice, `&s[at..]`, is its `drop`
@@ -24,13 +24,7 @@ length-part s at n h = simp (length-take, length-drop) (omega arith)
 pub part-add : (s : List ℕ) (at m n : ℕ) → part s at (m + n) ≡ part s at m ++ part s (at + m) n
 part-add s at m n = take-add m n (drop at s) ∙ ap (λ (r : List ℕ). part s at m ++ take n r) (drop-drop m at s)
 
--- a part that lies before the seam of two lists, and the part behind the first
-pub part-append-le : (s t : List ℕ) (at n : ℕ) → at + n ≤ length s → part (s ++ t) at n ≡ part s at n
-part-append-le s t at n h =
-    let inside : at ≤ length s = omega arith in
-    let short : n ≤ length (drop at s) = simp length-drop (omega arith) in
-    rw (drop-append-le, take-append-le)
-
+-- the part behind the first of three lists
 pub part-at : (p q r : List ℕ) (at n : ℕ) → length p ≡ at → length q ≡ n → part (p ++ (q ++ r)) at n ≡ q
 part-at p q r at n e f = ap (take n) (drop-at p (q ++ r) at e) ∙ take-at q r n f
 
@@ -57,8 +51,3 @@ bytes-take (x ∷ s) (suc n) h (suc i) = bytes-take s n (λ j. h (suc j)) i
 
 pub bytes-part : (s : List ℕ) (at n : ℕ) → Bytes s → Bytes (part s at n)
 bytes-part s at n h = bytes-take (drop at s) n (bytes-drop s at h)
-
-pub bytes-append : (s t : List ℕ) → Bytes s → Bytes t → Bytes (s ++ t)
-bytes-append [] t h k i = k i
-bytes-append (x ∷ s) t h k zero = h 0
-bytes-append (x ∷ s) t h k (suc i) = bytes-append s t (λ j. h (suc j)) k i

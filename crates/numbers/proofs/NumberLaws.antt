@@ -2,11 +2,11 @@
 use mathlib.Core.Path.{_≡_, refl, sym, ap, _∙_}
 use mathlib.Core.List.{List, [], _∷_, _++_}
 use Prim.Native.Nat.{ℕ, zero, suc, _+_, _-_, _*_, _/_, _%_, _^_, _≤_, _<_}
-use native.Mathlib.Nat.{zero-add, add-zero, suc-add, one-mul, mul-assoc, pow-zero, pow-suc, pow-succ', div-one, mod-eq-of-lt, div-div-eq-div-mul, div-lt-iff-lt-mul, pow-le-pow-right, one-le-pow, lt-of-lt-of-le}
+use native.Mathlib.Nat.{zero-add, add-zero, suc-add, one-mul, mul-assoc, pow-zero, pow-suc, pow-succ', div-one, mod-eq-of-lt, div-div-eq-div-mul, div-lt-iff-lt-mul, one-le-pow}
 use native.Mathlib.Omega.{arith}
 use lib.Arith.{mod-mul}
 use lib.Dec.{lit<}
-use lib.ListN.{length, take, drop, getD, set, length-take, length-drop, take-append-drop}
+use lib.ListN.{length, take, drop, getD, set, length-drop, take-append-drop}
 use lib.Seq.{drop-cons, take-all, take-take, length-take-le}
 use Rattle.numbers.specs.Lists.{Bytes, part, splice}
 use Rattle.numbers.specs.Numbers.{leValue, leBytes}
@@ -104,12 +104,6 @@ splice-step d at n v h =
     let small : v % 256 < 256 = omega arith in
     ap (λ (e : List ℕ). splice e (at + 1) (leBytes n (v / 256))) (set-is-leBytes d at (v % 256) h small)
     ∙ splice-halves d at 1 n v inside
-
--- a number in at most w bytes is below 256 ^ w
-pub leValue-part-bound : (s : List ℕ) (at n w : ℕ) → Bytes s → n ≤ w → leValue (part s at n) < 256 ^ w
-leValue-part-bound s at n w h k =
-    let short : length (part s at n) ≤ w = simp (length-take, length-drop) (omega arith) in
-    lt-of-lt-of-le (leValue-bound (part s at n) (bytes-part s at n h)) (pow-le-pow-right (lit< tt) short)
 
 -- ---- bytes moved as a number
 pub leBytes-part : (s : List ℕ) (at w : ℕ) → Bytes s → at + w ≤ length s → leBytes w (leValue (part s at w)) ≡ part s at w

@@ -42,34 +42,6 @@ pub fn get8(s: &[u8], at: usize) -> u64
     low + 4294967296 * high
 }
 
-// A width that no tree above has: byte by byte, the most significant first.
-fn get_each(s: &[u8], at: usize, width: usize) -> u64
-    requires { ⌜ (width ≤ 8) × (at + width ≤ length (now s)) ⌝ }
-    ensures { λ r. ⌜ r ≡ leValue (part (now (s .entry)) at width) ⌝ }
-{
-    let mut left = width;
-    let mut value: u64 = 0;
-    while 0 < left {
-        left = left - 1;
-        value = get1(s, at + left) as u64 + 256 * value;
-    }
-    value
-}
-
-// The number in so many bytes, eight at most.
-pub fn get(s: &[u8], at: usize, width: usize) -> u64
-    requires { ⌜ (width ≤ 8) × (at + width ≤ length (now s)) ⌝ }
-    ensures { λ r. ⌜ r ≡ leValue (part (now (s .entry)) at width) ⌝ }
-{
-    match width {
-        1 => get1(s, at) as u64,
-        2 => get2(s, at) as u64,
-        4 => get4(s, at) as u64,
-        8 => get8(s, at),
-        _ => get_each(s, at, width),
-    }
-}
-
 // A number into one, two, four or eight bytes from place at on; no other byte is altered.
 pub fn put1(out: &mut [u8], at: usize, value: u8)
     requires { ⌜ at + 1 ≤ length (now out) ⌝ }

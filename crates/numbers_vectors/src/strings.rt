@@ -1,7 +1,7 @@
 // Strings from standard input, each behind a byte that counts its bytes: in hexadecimal, and
 // whether it is text.
 use libc::STDIN_FILENO;
-use numbers::text::is_utf8;
+use text::is_utf8;
 
 fn line(s: &[u8]) {
     print::bytes(s);

@@ -1,6 +1,7 @@
 // Numbers at every width from 0 to 8: what is written between two bytes that stay, and what is read
-// back. At 1, 2, 4 and 8 these are the trees of halves.
+// back. At 1, 2, 4 and 8 these are the trees of halves, written and read.
 ghost use Prim.Native.Nat.{_≤_};
+ghost use lib.ListN.{length};
 use numbers::le;
 
 fn line(width: u64, value: u64, buffer: &[u8], back: u64) {
@@ -10,12 +11,36 @@ fn line(width: u64, value: u64, buffer: &[u8], back: u64) {
     print::count(back, b"\n");
 }
 
+// Bytes as a number, read plainly, the most significant first.
+fn plain(s: &[u8]) -> u64 {
+    let mut left = s.len();
+    let mut value: u64 = 0;
+    while 0 < left {
+        left = left - 1;
+        value = value % 0x0100000000000000 * 256 + s[left] as u64;
+    }
+    value
+}
+
+// The number at place 1: by the trees where there is one, else read plainly.
+fn read(buffer: &[u8], width: usize) -> u64
+    requires { ⌜ (width ≤ 8) × (9 ≤ length (now buffer)) ⌝ }
+{
+    match width {
+        1 => le::get1(buffer, 1) as u64,
+        2 => le::get2(buffer, 1) as u64,
+        4 => le::get4(buffer, 1) as u64,
+        8 => le::get8(buffer, 1),
+        _ => plain(&buffer[1..1 + width]),
+    }
+}
+
 fn at_width(width: usize, value: u64)
     requires { ⌜ width ≤ 8 ⌝ }
 {
     let mut buffer = [0xaa; 10];
     le::put(&mut buffer, 1, width, value);
-    let back = le::get(&buffer, 1, width);
+    let back = read(&buffer, width);
     line(width as u64, value, &buffer, back);
 }
 

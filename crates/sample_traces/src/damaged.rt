@@ -1,9 +1,14 @@
 // The ride once more, with errors that were made in the store: five bytes are others, and the end is lost.
 // Every length is as it was, so each error costs one record. Places are the ride's.
-use crate::bytes::cut;
-use crate::bytes::spoil;
 use crate::ride::ride;
-use crate::trace::Trace;
+use crate::steps::REFUSED;
+
+// One byte altered; outside of the buffer none.
+fn spoil(out: &mut [u8], at: usize, byte: u8) {
+    if at < out.len() {
+        out[at] = byte;
+    }
+}
 
 // Magic with 64 for 65: refused with 3. ThreadId with tag 00 for 01, which wants more content: 4. MemRead
 // with first byte 89 for 81, of an unknown kind: 7. 'memcpy' with ff for 'm', which is not text: 5.
@@ -17,8 +22,11 @@ fn spoil_all(out: &mut [u8]) {
 }
 
 // Of the last record, which has 19 bytes, eight are left.
-pub(crate) fn damaged(out: &mut [u8]) -> Trace {
-    let t = ride(out);
+pub(crate) fn damaged(out: &mut [u8]) -> usize {
+    let end = ride(out);
     spoil_all(out);
-    cut(t, 11)
+    if end < 11 {
+        return REFUSED;
+    }
+    end - 11
 }

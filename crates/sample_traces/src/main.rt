@@ -2,38 +2,31 @@
 // to standard output, 1 boot, 2 ride, 3 foreign, 4 damaged. For any other input it writes nothing, and
 // nothing where a write was refused.
 mod boot;
-mod bytes;
 mod damaged;
 mod foreign;
-mod registers;
 mod ride;
 mod steps;
-mod trace;
+mod types;
 
 use libc::STDIN_FILENO;
 use libc::STDOUT_FILENO;
-use trace::Trace;
-use trace::blank;
-use trace::refused;
+use steps::REFUSED;
 
-// The trace that a digit names.
-fn made(out: &mut [u8], digit: u8) -> Trace {
+// Makes the trace that a digit names, and tells where it ends.
+fn made(out: &mut [u8], digit: u8) -> usize {
     match digit {
         b'1' => boot::boot(out),
         b'2' => ride::ride(out),
         b'3' => foreign::foreign(out),
         b'4' => damaged::damaged(out),
-        _ => refused(),
+        _ => REFUSED,
     }
 }
 
 // The bytes of a trace, where all its records were written.
-fn show(out: &[u8], trace: Trace) {
-    let end = trace.end;
-    if trace.good {
-        if end <= out.len() {
-            io::write_all(STDOUT_FILENO, &out[..end]);
-        }
+fn show(out: &[u8], end: usize) {
+    if end <= out.len() {
+        io::write_all(STDOUT_FILENO, &out[..end]);
     }
 }
 
@@ -42,7 +35,7 @@ fn main() {
     if io::read_full(STDIN_FILENO, &mut input) != 1 {
         return;
     }
-    let mut out = blank();
-    let trace = made(&mut out, input[0]);
-    show(&out, trace);
+    let mut out = [0u8; 2048];
+    let end = made(&mut out, input[0]);
+    show(&out, end);
 }

@@ -1,150 +1,125 @@
 // A moment of a ride: the timer's tick reads the fuel sensor, a message of the CAN bus brings the speed,
 // the display is drawn anew. The fuel sensor's register is at 4001204c (hexadecimal), that of the bus at
 // 400065b8, the display buffer at 20001000, the heap at 20002000.
-use crate::registers::names;
-use crate::steps::call_begin;
-use crate::steps::call_end;
-use crate::steps::executed;
-use crate::steps::interrupt;
-use crate::steps::magic;
-use crate::steps::map;
-use crate::steps::mem_read;
-use crate::steps::mem_write;
-use crate::steps::meta;
-use crate::steps::reg_read;
-use crate::steps::reg_write;
-use crate::trace::Trace;
-use crate::trace::empty;
-use crate::trace::put;
-use records::new_record::NewFileMeta;
-use records::new_record::NewMeta;
-use records::new_record::NewRecord;
-use records::record::Register;
+use crate::steps::begin;
+use crate::steps::put;
+use crate::types::ADDRESS_DEPENDENCY_EDGE;
+use crate::types::CALL_BEGIN;
+use crate::types::CALL_END;
+use crate::types::CALL_MODELED_OPS_END;
+use crate::types::INSTRUCTION_COUNT;
+use crate::types::INTERRUPT;
+use crate::types::MAP;
+use crate::types::MEM_READ;
+use crate::types::MEM_WRITE;
+use crate::types::MEMORY_ALLOCATED;
+use crate::types::MEMORY_FREED;
+use crate::types::MEMORY_REALLOCATED;
+use crate::types::OPERAND_UNCERTAIN;
+use crate::types::PROCESS_ID;
+use crate::types::REG_READ;
+use crate::types::REG_WRITE;
+use crate::types::REGISTER_DEPENDENCY_EDGE;
+use crate::types::THREAD_ID;
+use crate::types::UNKNOWN_FILE_META;
+use crate::types::UNKNOWN_META;
+use crate::types::UNMAP;
 
-// What holds for the whole trace; a FileMeta of tag 7, which this format does not have, names the release.
-fn release(out: &mut [u8], t: Trace) -> Trace {
-    let t = magic(out, t);
-    let t = names(out, t);
-    let new = NewRecord::FileMeta(NewFileMeta::Unknown { tag: 7 });
-    put(out, t, new, b"cluster 2.4")
-}
-
-// The process, its display thread, and an empty display buffer.
-fn begin(out: &mut [u8], t: Trace) -> Trace {
-    let t = meta(out, t, NewMeta::ProcessId { processid: 1 });
-    let t = meta(out, t, NewMeta::ThreadId { threadid: 2 });
-    let t = map(out, t, 0x20001000, &[0; 256]);
-    executed(out, t, 1000000)
-}
-
-// Room for a message.
-fn allocate(out: &mut [u8], t: Trace) -> Trace {
-    let new = NewMeta::MemoryAllocated {
-        address: 0x20002000,
-        size: 16,
-    };
-    meta(out, t, new)
+// A FileMeta of tag 7, which this format does not have, names the release; then the process, its display
+// thread, an empty display buffer, and room for a message.
+fn first(out: &mut [u8], at: usize) -> usize {
+    let at = put(out, at, &[[UNKNOWN_FILE_META, 7, 0, 0, 11]], b"cluster 2.4");
+    let steps = [
+        [PROCESS_ID, 1, 0, 0, 0],
+        [THREAD_ID, 2, 0, 0, 0],
+        [MAP, 0x20001000, 0, 0, 256],
+        [INSTRUCTION_COUNT, 1000000, 0, 0, 0],
+        [MEMORY_ALLOCATED, 0x20002000, 16, 0, 0],
+    ];
+    put(out, at, &steps, &[0; 256])
 }
 
 // The tick timer: the sensor says 722, which is 70 percent, and that is written to the display.
-fn tick(out: &mut [u8], t: Trace) -> Trace {
-    let t = interrupt(out, t, 15, 1000040);
-    let t = mem_read(out, t, 0x4001204c, b"\xd2\x02\x00\x00");
-    let t = reg_read(out, t, 2, b"\x00\x10\x00\x20");
-    let t = reg_write(out, t, 3, b"\x46\x00\x00\x00");
-    mem_write(out, t, 0x20001000, b"FUEL 70%")
+fn tick(out: &mut [u8], at: usize) -> usize {
+    let steps = [
+        [INTERRUPT, 15, 1000040, 0, 0],
+        [MEM_READ, 0x4001204c, 0, 0, 4],
+        [REG_READ, 2, 0, 0, 4],
+        [REG_WRITE, 3, 0, 0, 4],
+        [MEM_WRITE, 0x20001000, 0, 0, 8],
+    ];
+    let bytes = b"\xd2\x02\x00\x00\
+        \x00\x10\x00\x20\
+        \x46\x00\x00\x00\
+        FUEL 70%";
+    put(out, at, &steps, bytes)
 }
 
-// The bus has received a message, and its eight bytes are kept.
-fn message(out: &mut [u8], t: Trace) -> Trace {
-    let t = interrupt(out, t, 36, 1000258);
-    let t = mem_read(out, t, 0x400065b8, b"\x10\x27\x58\x00\x00\x00\x00\x01");
-    mem_write(out, t, 0x20002000, b"\x10\x27\x58\x00\x00\x00\x00\x01")
+// The bus has received a message, and its eight bytes are kept. Then there is room for more messages, at
+// another place.
+fn message(out: &mut [u8], at: usize) -> usize {
+    let steps = [
+        [INTERRUPT, 36, 1000258, 0, 0],
+        [MEM_READ, 0x400065b8, 0, 0, 8],
+        [MEM_WRITE, 0x20002000, 0, 0, 8],
+        [MEMORY_REALLOCATED, 0x20002040, 0x20002000, 64, 0],
+    ];
+    let bytes = b"\x10\x27\x58\x00\x00\x00\x00\x01\
+        \x10\x27\x58\x00\x00\x00\x00\x01";
+    put(out, at, &steps, bytes)
 }
 
-// Room for more messages, at another place.
-fn reallocate(out: &mut [u8], t: Trace) -> Trace {
-    let new = NewMeta::MemoryReallocated {
-        new_address: 0x20002040,
-        old_address: 0x20002000,
-        size: 64,
-    };
-    meta(out, t, new)
+// The message is copied by a function whose instructions are not recorded, only what it does: what the
+// bytes that are written next depend on, a place in memory and a register; that they are not known for
+// certain; and the bytes.
+fn copied(out: &mut [u8], at: usize) -> usize {
+    let steps = [
+        [CALL_BEGIN, 0x400, 0, 0, 6],
+        [ADDRESS_DEPENDENCY_EDGE, 0x20002000, 0, 0, 0],
+        [REGISTER_DEPENDENCY_EDGE, 3, 0, 0, 0],
+        [OPERAND_UNCERTAIN, 0, 0, 0, 0],
+        [MEM_WRITE, 0x20002040, 0, 0, 8],
+        [CALL_MODELED_OPS_END, 0, 0, 0, 0],
+        [CALL_END, 0x31c, 0, 0, 0],
+    ];
+    let bytes = b"memcpy\
+        \x10\x27\x58\x00\x00\x00\x00\x01";
+    put(out, at, &steps, bytes)
 }
 
-// What the bytes that are written next depend on: a place in memory and a register; and that they are not
-// known for certain.
-fn edges(out: &mut [u8], t: Trace) -> Trace {
-    let edge = NewMeta::AddressDependencyEdge {
-        address: 0x20002000,
-    };
-    let t = meta(out, t, edge);
-    let register = Register(3);
-    let t = meta(out, t, NewMeta::RegisterDependencyEdge { register });
-    meta(out, t, NewMeta::OperandUncertain)
+// Another thread draws, in a function whose name has 32 bytes, as many as there is room for.
+fn drawing(out: &mut [u8], at: usize) -> usize {
+    let steps = [[THREAD_ID, 3, 0, 0, 0], [CALL_BEGIN, 0x480, 0, 0, 32]];
+    put(out, at, &steps, b"Geschwindigkeitsanzeige_zeichnen")
 }
 
-// The message is copied by a function whose instructions are not recorded, only what it does.
-fn copied(out: &mut [u8], t: Trace) -> Trace {
-    let t = call_begin(out, t, 0x400, b"memcpy");
-    let t = edges(out, t);
-    let t = mem_write(out, t, 0x20002040, b"\x10\x27\x58\x00\x00\x00\x00\x01");
-    let t = meta(out, t, NewMeta::CallModeledOpsEnd);
-    call_end(out, t, 0x31c)
+// The whole display: 256 bytes at once, so that the record is of the longer form. Then the speed.
+fn drawn(out: &mut [u8], at: usize) -> usize {
+    let at = put(out, at, &[[MEM_WRITE, 0x20001000, 0, 0, 256]], &[b' '; 256]);
+    let steps = [[MEM_WRITE, 0x20001010, 0, 0, 7], [CALL_END, 0x322, 0, 0, 0]];
+    put(out, at, &steps, b"88 km/h")
 }
 
-// The whole display, drawn in another thread: 256 bytes at once, so that the record is of the longer form.
-// The function's name has 32 bytes, as many as there is room for.
-fn draw(out: &mut [u8], t: Trace) -> Trace {
-    let t = meta(out, t, NewMeta::ThreadId { threadid: 3 });
-    let t = call_begin(out, t, 0x480, b"Geschwindigkeitsanzeige_zeichnen");
-    let t = mem_write(out, t, 0x20001000, &[b' '; 256]);
-    let t = mem_write(out, t, 0x20001010, b"88 km/h");
-    call_end(out, t, 0x322)
+// What a later recorder may tell: a Meta of tag 200, which this format does not have. Then the room for
+// messages and the display buffer are given back.
+fn last(out: &mut [u8], at: usize) -> usize {
+    let steps = [
+        [UNKNOWN_META, 200, 0, 0, 3],
+        [MEMORY_FREED, 0x20002040, 64, 0, 0],
+        [INSTRUCTION_COUNT, 1001000, 0, 0, 0],
+        [UNMAP, 0x20001000, 256, 0, 0],
+    ];
+    let bytes = b"\x01\x02\x03";
+    put(out, at, &steps, bytes)
 }
 
-// What a later recorder may tell: a Meta of tag 200, which this format does not have.
-fn later(out: &mut [u8], t: Trace) -> Trace {
-    put(
-        out,
-        t,
-        NewRecord::Meta(NewMeta::Unknown { tag: 200 }),
-        b"\x01\x02\x03",
-    )
-}
-
-fn free(out: &mut [u8], t: Trace) -> Trace {
-    let new = NewMeta::MemoryFreed {
-        address: 0x20002040,
-        size: 64,
-    };
-    meta(out, t, new)
-}
-
-// The display buffer is given back.
-fn end(out: &mut [u8], t: Trace) -> Trace {
-    let t = free(out, t);
-    let t = executed(out, t, 1001000);
-    let new = NewRecord::Unmap {
-        base: 0x20001000,
-        length: 256,
-    };
-    put(out, t, new, b"")
-}
-
-fn first_half(out: &mut [u8]) -> Trace {
-    let t = release(out, empty());
-    let t = begin(out, t);
-    let t = allocate(out, t);
-    let t = tick(out, t);
-    message(out, t)
-}
-
-pub(crate) fn ride(out: &mut [u8]) -> Trace {
-    let t = first_half(out);
-    let t = reallocate(out, t);
-    let t = copied(out, t);
-    let t = draw(out, t);
-    let t = later(out, t);
-    end(out, t)
+pub(crate) fn ride(out: &mut [u8]) -> usize {
+    let at = begin(out);
+    let at = first(out, at);
+    let at = tick(out, at);
+    let at = message(out, at);
+    let at = copied(out, at);
+    let at = drawing(out, at);
+    let at = drawn(out, at);
+    last(out, at)
 }

@@ -1,7 +1,5 @@
 // The functions that C and Rust call. include/trace.h says what each argument is and what each number
 // means; a struct there is here the array of its numbers.
-mod flat;
-mod given;
 mod read;
 mod write;
 

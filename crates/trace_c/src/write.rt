@@ -2,9 +2,9 @@
 ghost use mathlib.Core.Path.{_≡_};
 ghost use lib.ListN.{length};
 ghost use Rattle.trace_c.specs.Records.{given, verdictNumber, writtenNumber, writtenNext, writtenBytes};
-use crate::given::Given;
-use crate::given::new_of;
-use records::write::Verdict;
+use contents::write::Verdict;
+use given::Given;
+use given::new_of;
 use traces::position::Position;
 
 fn number_of(verdict: Verdict) -> u64

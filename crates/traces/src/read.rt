@@ -1,7 +1,7 @@
 // The answers of reading.
 use crate::position::Position;
+use contents::record::Record;
 use frames::read::Part;
-use records::record::Record;
 
 // What one call says. A part is the framed record's, from its start up to its end.
 pub enum Answer {

@@ -1,6 +1,6 @@
 // The answer of writing.
 use crate::position::Position;
-use records::write::Verdict;
+use contents::write::Verdict;
 
 // What one call gives: the next position, and what it says.
 pub struct Written {

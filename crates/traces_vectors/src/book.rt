@@ -1,18 +1,18 @@
 // The book of a list: for each accepted call its type, its three numbers, where its slice lies in the
 // pool and how much of it is the record's, and where its frame starts and ends.
 use crate::calls::Call;
-use crate::flat::Flat;
-use crate::flat::SHOWN;
 use crate::rules::NOTHING;
 use crate::rules::shape_of;
+use crate::shown::SHOWN;
+use crate::shown::Shown;
 use crate::slices::part;
 use crate::slices::same;
-use records::bytes::bytes;
+use contents::bytes::bytes;
 
 pub(crate) struct Entry {
     pub(crate) call: Call,
-    pub(crate) from: usize,
-    pub(crate) to: usize,
+    pub(crate) from: u64,
+    pub(crate) to: u64,
 }
 
 pub(crate) fn entry_at(book: &[[u64; 8]], i: usize) -> Entry {
@@ -30,9 +30,17 @@ pub(crate) fn entry_at(book: &[[u64; 8]], i: usize) -> Entry {
     };
     Entry {
         call,
-        from: n[6] as usize,
-        to: n[7] as usize,
+        from: n[6],
+        to: n[7],
     }
+}
+
+// The first so many entries.
+pub(crate) fn entries(book: &[[u64; 8]], n: usize) -> &[[u64; 8]] {
+    if n > book.len() {
+        return book;
+    }
+    &book[0..n]
 }
 
 // A record has no bytes where its type takes none of the slice.
@@ -57,22 +65,19 @@ pub(crate) fn enter(book: &mut [[u64; 8]], i: usize, call: Call, from: usize, to
     }
 }
 
-fn same_frame(shown: Flat, entry: Entry) -> bool {
+fn same_frame(shown: Shown, entry: Entry) -> bool {
     shown.sort == SHOWN && shown.from == entry.from && shown.to == entry.to
 }
 
-fn same_numbers(shown: Flat, call: Call) -> bool {
-    let fields = shown.fields;
-    fields.t == call.t && fields.a == call.a && fields.b == call.b && fields.c == call.c
+fn same_numbers(shown: Shown, call: Call) -> bool {
+    shown.t == call.t && shown.a == call.a && shown.b == call.b && shown.c == call.c
 }
 
 // Whether the reading of s shows the record that the book has.
-pub(crate) fn shows(s: &[u8], shown: Flat, pool: &[u8], entry: Entry) -> bool {
+pub(crate) fn shows(s: &[u8], shown: Shown, pool: &[u8], entry: Entry) -> bool {
     let call = entry.call;
-    let fields = shown.fields;
-    let own = fields.part;
     if same_frame(shown, entry) && same_numbers(shown, call) {
-        return same(bytes(s, own), part(pool, call.start, call.len));
+        return same(bytes(s, shown.part), part(pool, call.start, call.len));
     }
     false
 }

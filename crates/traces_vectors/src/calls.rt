@@ -19,7 +19,7 @@ pub(crate) struct Call {
 fn drawn_type(seed: &mut u64) -> u64 {
     match draw(seed, 26) {
         0 => 1,
-        n => 2 + n % 26,
+        n => 2 + n,
     }
 }
 
@@ -46,9 +46,9 @@ fn section(t: u64) -> usize
 // Short slices, some around 254 bytes, and a few around 65,530.
 fn drawn_length(seed: &mut u64) -> usize {
     match draw(seed, 64) {
-        0..=3 => 250 + (draw(seed, 11) % 11) as usize,
-        4 => 65520 + (draw(seed, 24) % 24) as usize,
-        _ => (draw(seed, 41) % 41) as usize,
+        0..=3 => 250 + draw(seed, 11) as usize,
+        4 => 65520 + draw(seed, 24) as usize,
+        _ => draw(seed, 41) as usize,
     }
 }
 
@@ -58,7 +58,7 @@ pub(crate) fn next_call(seed: &mut u64) -> Call {
     let a = first(t, number(seed, shape.a));
     let b = number(seed, shape.b);
     let c = number(seed, shape.c);
-    let start = section(t) + (draw(seed, 400) % 400) as usize;
+    let start = section(t) + draw(seed, 400) as usize;
     let len = drawn_length(seed);
     Call {
         t,

@@ -1,12 +1,9 @@
 // Forty lists of sixty calls, each into as many bytes as are drawn, which hold a part of the pool before.
-ghost use Prim.Native.Nat.{_≤_};
-ghost use lib.ListN.{length};
 use crate::book::enter;
+use crate::book::entries;
 use crate::calls::Call;
 use crate::calls::next_call;
 use crate::lines::numbers;
-use crate::new::Said;
-use crate::new::write;
 use crate::pool::ANY;
 use crate::random::draw;
 use crate::readings::read_all;
@@ -23,6 +20,8 @@ use crate::tally::VERDICTS;
 use crate::tally::called;
 use crate::tally::compared;
 use crate::tally::report;
+use crate::write::Said;
+use crate::write::write;
 use std::num::wrapping_add_usize;
 
 // How far a list has come: the codec's position, and the book's end position and number of records.
@@ -98,13 +97,6 @@ fn beyond(out: &[u8], before: &[u8], end: usize, tally: &mut [u64]) {
     }
 }
 
-// What is read of a list, held against its book.
-fn read(out: &[u8], pool: &[u8], book: &[[u64; 8]], state: State, tally: &mut [u64]) {
-    let s = part(out, 0, state.end);
-    read_back(s, pool, book, state.count, tally);
-    read_all(s, pool, book, state.count, tally);
-}
-
 fn line(out: &[u8], state: State) {
     let n = [
         out.len() as u64,
@@ -115,45 +107,47 @@ fn line(out: &[u8], state: State) {
     numbers(b"lent, records, end, remainder:", &n, b"\n");
 }
 
-// A list, into bytes that were others before.
-fn one_list(
-    out: &mut [u8],
+// What was written of a list, held against its book.
+fn check(
+    out: &[u8],
     before: &[u8],
     pool: &[u8],
-    book: &mut [[u64; 8]],
+    book: &[[u64; 8]],
+    state: State,
     tally: &mut [u64],
-    seed: &mut u64,
 ) {
-    copy(out, before);
-    let state = write_all(out, pool, book, tally, seed);
+    let s = part(out, 0, state.end);
     line(out, state);
     beyond(out, before, state.end, tally);
-    read(out, pool, book, state, tally);
+    read_back(s, pool, book, tally);
+    read_all(s, pool, book, tally);
 }
 
-fn lists(out: &mut [u8], pool: &[u8], book: &mut [[u64; 8]], tally: &mut [u64], seed: &mut u64)
-    requires { ⌜ 3500 ≤ length (now out) ⌝ }
-{
+// A list, into bytes that were others before.
+fn one_list(out: &mut [u8], before: &[u8], pool: &[u8], tally: &mut [u64], seed: &mut u64) {
+    let mut book = [[0u64; 8]; 60];
+    copy(out, before);
+    let state = write_all(out, pool, &mut book, tally, seed);
+    check(out, before, pool, entries(&book, state.count), state, tally);
+}
+
+fn drawn_list(pool: &[u8], tally: &mut [u64], seed: &mut u64) {
+    let mut out = [0u8; 3500];
+    let lent = 300 + draw(seed, 3000) as usize;
+    let start = ANY + draw(seed, 60000) as usize;
+    one_list(&mut out[..lent], part(pool, start, lent), pool, tally, seed);
+}
+
+fn lists(pool: &[u8], tally: &mut [u64], seed: &mut u64) {
     let mut i: usize = 0;
     while i < 40 {
-        let lent = 300 + (draw(seed, 3000) % 3000) as usize;
-        let start = ANY + (draw(seed, 60000) % 60000) as usize;
-        one_list(
-            &mut out[..lent],
-            part(pool, start, lent),
-            pool,
-            book,
-            tally,
-            seed,
-        );
+        drawn_list(pool, tally, seed);
         i = i + 1;
     }
 }
 
 pub(crate) fn run(pool: &[u8], seed: &mut u64) {
-    let mut out = [0u8; 3500];
-    let mut book = [[0u64; 8]; 60];
     let mut tally = [0u64; 36];
-    lists(&mut out, pool, &mut book, &mut tally, seed);
+    lists(pool, &mut tally, seed);
     report(&tally);
 }

@@ -4,17 +4,17 @@
 mod book;
 mod calls;
 mod examples;
-mod flat;
 mod lines;
 mod lists;
-mod new;
 mod pool;
 mod random;
 mod readings;
 mod rules;
+mod shown;
 mod slices;
 mod tally;
 mod text;
+mod write;
 
 fn main() {
     let mut pool = [0u8; 68048];

@@ -4,12 +4,6 @@ pub(crate) fn get(a: &[u64], i: usize) -> u64 {
     if i < a.len() { a[i] } else { 0 }
 }
 
-pub(crate) fn put(a: &mut [u64], i: usize, v: u64) {
-    if i < a.len() {
-        a[i] = v;
-    }
-}
-
 pub(crate) fn at(s: &[u8], i: usize) -> u8 {
     if i < s.len() { s[i] } else { 0 }
 }

@@ -3,7 +3,6 @@ ghost use Prim.Native.Nat.{_≤_};
 ghost use lib.ListN.{length};
 use crate::lines::numbers;
 use crate::slices::get;
-use crate::slices::put;
 use std::num::wrapping_add_u64;
 use std::num::wrapping_add_usize;
 
@@ -35,8 +34,9 @@ const WANTED: usize = 19;
 const ACCEPTED: usize = 20;
 
 fn add(tally: &mut [u64], i: usize, n: u64) {
-    let sum = wrapping_add_u64(get(tally, i), n);
-    put(tally, i, sum);
+    if i < tally.len() {
+        tally[i] = wrapping_add_u64(tally[i], n);
+    }
 }
 
 pub(crate) fn compared(tally: &mut [u64], kind: usize, same: bool) {
@@ -54,9 +54,9 @@ pub(crate) fn called(tally: &mut [u64], number: u64) {
     }
 }
 
-pub(crate) fn wanted(tally: &mut [u64], number: usize) {
+pub(crate) fn wanted(tally: &mut [u64], number: u64) {
     add(tally, UNFINISHED, 1);
-    add(tally, WANTED, number as u64);
+    add(tally, WANTED, number);
 }
 
 fn line(kind: &[u8], tally: &[u64], i: usize) {

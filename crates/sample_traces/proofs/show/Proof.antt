@@ -18,9 +18,6 @@ returns c = search needs
 returns-2 : tie.Need-returns-2
 returns-2 c = search needs
 
-returns-3 : tie.Need-returns-3
-returns-3 c = search needs
-
 pub show-spec : {M : Type 1} → statement M
 show-spec =
-    tie.close (tie.spec slice-aggregate-write-all write-all-requires returns returns-2 returns-3)
+    tie.close (tie.spec slice-aggregate-write-all write-all-requires returns returns-2)

@@ -8,13 +8,10 @@ use Rattle.traces_vectors.proofs.readings.read_all.Statement.{statement
 use Rattle.traces_vectors.proofs.readings.read_all.Tie as tie
 
 abbrev Inv-loop : tie.InvT-loop
-Inv-loop s pool book count tally₀ heads k₀ tally k = (k ≤ length s) × (length tally ≡ length tally₀)
+Inv-loop s pool book tally₀ k₀ tally k = (k ≤ length s) × (length tally ≡ length tally₀)
 
 abbrev μ-loop : tie.MeasureT-loop
-μ-loop s pool book count tally₀ heads k₀ tally k = length s - k
-
-heads-requires : tie.Need-heads-requires Inv-loop μ-loop
-heads-requires c κs = search needs
+μ-loop s pool book tally₀ k₀ tally k = length s - k
 
 read-on-requires : tie.Need-read-on-requires Inv-loop μ-loop
 read-on-requires c κs = search needs
@@ -44,18 +41,4 @@ returns : tie.Need-returns Inv-loop μ-loop
 returns c = search needs
 
 pub read-all-spec : {M : Type 1} → statement M
-read-all-spec =
-    tie.close
-    (tie.spec
-    Inv-loop
-    μ-loop
-    heads-requires
-    read-on-requires
-    loop-holds
-    part-requires
-    read-on-requires-2
-    add-k
-    loop-less
-    loop-again
-    same-length
-    returns)
+read-all-spec = tie.close (tie.spec Inv-loop μ-loop read-on-requires loop-holds part-requires read-on-requires-2 add-k loop-less loop-again same-length returns)

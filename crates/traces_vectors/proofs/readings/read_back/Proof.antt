@@ -7,10 +7,10 @@ use Rattle.traces_vectors.proofs.readings.read_back.Statement.{statemen
 use Rattle.traces_vectors.proofs.readings.read_back.Tie as tie
 
 abbrev Inv-loop : tie.InvT-loop
-Inv-loop s pool book count tally₀ at₀ left₀ tally at left = length tally ≡ length tally₀
+Inv-loop s pool book tally₀ at₀ left₀ tally at left = length tally ≡ length tally₀
 
 abbrev μ-loop : tie.MeasureT-loop
-μ-loop s pool book count tally₀ at₀ left₀ tally at left = left
+μ-loop s pool book tally₀ at₀ left₀ tally at left = left
 
 loop-holds : tie.Need-loop-holds Inv-loop μ-loop
 loop-holds c = search needs
@@ -18,11 +18,14 @@ loop-holds c = search needs
 sub-left : tie.Need-sub-left Inv-loop μ-loop
 sub-left c = search needs
 
+previous-requires : tie.Need-previous-requires Inv-loop μ-loop
+previous-requires c κs = search needs
+
 entry-at-requires : tie.Need-entry-at-requires Inv-loop μ-loop
 entry-at-requires c κs = search needs
 
-previous-requires : tie.Need-previous-requires Inv-loop μ-loop
-previous-requires c κs = search needs
+held-requires : tie.Need-held-requires Inv-loop μ-loop
+held-requires c κs = search needs
 
 loop-less : tie.Need-loop-less Inv-loop μ-loop
 loop-less c = search needs
@@ -30,11 +33,8 @@ loop-less c = search needs
 loop-again : tie.Need-loop-again Inv-loop μ-loop
 loop-again c = search needs
 
-read-previous-requires : tie.Need-read-previous-requires Inv-loop μ-loop
-read-previous-requires c κs = search needs
-
-flattened-requires : tie.Need-flattened-requires Inv-loop μ-loop
-flattened-requires c κs = search needs
+previous-requires-2 : tie.Need-previous-requires-2 Inv-loop μ-loop
+previous-requires-2 c κs = search needs
 
 ends-requires : tie.Need-ends-requires Inv-loop μ-loop
 ends-requires c κs = search needs
@@ -49,20 +49,4 @@ returns : tie.Need-returns Inv-loop μ-loop
 returns c = search needs
 
 pub read-back-spec : {M : Type 1} → statement M
-read-back-spec =
-    tie.close
-    (tie.spec
-    Inv-loop
-    μ-loop
-    loop-holds
-    sub-left
-    entry-at-requires
-    previous-requires
-    loop-less
-    loop-again
-    read-previous-requires
-    flattened-requires
-    ends-requires
-    compared-requires
-    same-length
-    returns)
+read-back-spec = tie.close (tie.spec Inv-loop μ-loop loop-holds sub-left previous-requires entry-at-requires held-requires loop-less loop-again previous-requires-2 ends-requires compared-requires same-length returns)

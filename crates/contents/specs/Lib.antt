@@ -1,0 +1,4 @@
+pub mod Contents
+pub mod Views
+pub mod Reading
+pub mod Writing

@@ -1,0 +1,3 @@
+pub mod ReadsLaws
+pub mod DemandLaws
+pub mod Attempts

@@ -1,0 +1,36 @@
+// A call of the codec, and what is said of it.
+use crate::calls::Call;
+use contents::write::Verdict;
+use given::Given;
+use given::new_of;
+use traces::position::Position;
+use traces::write::Written;
+
+// 0, or the number of the refusal, or 256 where the call has no record; and the position.
+pub(crate) struct Said {
+    pub(crate) number: u64,
+    pub(crate) at: usize,
+}
+
+fn number_of(verdict: Verdict) -> u64 {
+    match verdict {
+        Verdict::Accepted => 0,
+        Verdict::Refused(number) => number as u64,
+    }
+}
+
+fn said_of(written: Written) -> Said {
+    let position = written.position;
+    let verdict = written.verdict;
+    Said {
+        number: number_of(verdict),
+        at: position.at,
+    }
+}
+
+pub(crate) fn write(out: &mut [u8], at: usize, call: Call, slice: &[u8]) -> Said {
+    match new_of(call.t, call.a, call.b, call.c) {
+        Given::Record(new) => said_of(Position { at }.write(out, new, slice)),
+        Given::Nothing => Said { number: 256, at },
+    }
+}

@@ -1,0 +1,4 @@
+// One record written.
+pub mod emit;
+mod judge;
+mod row;
