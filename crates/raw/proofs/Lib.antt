@@ -1,0 +1,3 @@
+pub mod Above
+pub mod Held
+pub mod Thin
