@@ -1,4 +1,4 @@
-//! The listing: its text, made from the original's answers, against the program `tracelist`.
+//! The listing: its text, made from the original's answers, against a program that lists.
 
 use crate::tally::Tally;
 use compare::answer::{FINISHED, UNFINISHED};

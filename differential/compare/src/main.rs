@@ -1,4 +1,4 @@
-//! The proved codec against the original Rust. `compare [--long] TRACELIST`; TRACELIST is the listing program.
+//! The proved codec against the original Rust. `compare [--long] TRACELIST RAWLIST`; these are the listing programs.
 //! Exit status 1 where anything differs.
 
 mod check;
@@ -13,9 +13,10 @@ use std::process::ExitCode;
 use tally::Tally;
 
 fn main() -> ExitCode {
-    let mut arguments: Vec<String> = std::env::args().skip(1).collect();
-    let program = arguments.pop().expect("the path of the listing program");
-    let run = if arguments.contains(&"--long".into()) { Run::Long } else { Run::Bounded };
+    let mut programs: Vec<String> = std::env::args().skip(1).collect();
+    let long = programs.first().is_some_and(|word| word == "--long");
+    let run = if long { Run::Long } else { Run::Bounded };
+    programs.drain(..usize::from(long));
     compare::panics::silence();
     println!("{}", Tally::header());
     let mut total = Tally::default();
@@ -29,12 +30,15 @@ fn main() -> ExitCode {
         class.make(run, &mut |row| check_write::check(row, &mut tally));
         report(class.name, tally, &mut total);
     }
-    if Path::new(&program).exists() {
-        let mut tally = Tally::default();
-        listing::check(Path::new(&program), run, &mut tally);
-        report("listing", tally, &mut total);
-    } else {
-        println!("{:<17} not compared: there is no {program}", "listing");
+    for program in programs.iter().map(Path::new) {
+        let name = program.file_name().and_then(|name| name.to_str()).unwrap_or("listing");
+        if program.exists() {
+            let mut tally = Tally::default();
+            listing::check(program, run, &mut tally);
+            report(name, tally, &mut total);
+        } else {
+            println!("{name:<17} not compared: there is no {}", program.display());
+        }
     }
     println!("{}", total.line("total"));
     match total.first() {

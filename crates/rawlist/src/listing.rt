@@ -1,0 +1,54 @@
+// The listing of a trace, line by line, as far as the iterator's position moves.
+use crate::record::kind;
+use crate::record::number;
+use contents::bytes::bytes;
+use frames::read::Part;
+use raw::plain::len;
+use trace_buffer::next_from;
+use traces::position::Position;
+use traces::read::Answer;
+
+// A framed record: where it starts, and what its own bytes tell.
+fn put_record(s: &[u8], part: Part) {
+    let framed = bytes(s, part);
+    print::count(part.start as u64, b" ");
+    print::count(len(framed) as u64, b" ");
+    print::byte(kind(framed));
+    print::count(number(framed) as u64, b"\n");
+}
+
+fn put_end(at: usize) {
+    print::labelled(b"end ", at as u64);
+    print::text(b"\n");
+}
+
+fn put_unfinished(at: usize, wanted: usize) {
+    print::labelled(b"unfinished ", at as u64);
+    print::labelled(b" ", wanted as u64);
+    print::text(b"\n");
+}
+
+fn put_line(s: &[u8], at: usize, answer: Answer) {
+    match answer {
+        Answer::Shown(_, part) => put_record(s, part),
+        Answer::RefusedAt(_, part) => put_record(s, part),
+        Answer::Refused(_) => put_end(at),
+        Answer::Finished => put_end(at),
+        Answer::Unfinished(wanted) => put_unfinished(at, wanted),
+    }
+}
+
+// A call that frames no record leaves the position, and is the last.
+pub fn list(s: &[u8]) {
+    let mut at = 0;
+    let mut more = true;
+    while more {
+        let reading = next_from(Position { at }, s);
+        let answer = reading.answer;
+        put_line(s, at, answer);
+        let position = reading.position;
+        let next = position.at;
+        more = at < next;
+        at = next;
+    }
+}
