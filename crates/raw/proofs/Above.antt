@@ -4,7 +4,7 @@
 -- E gives F of the slice held.
 -- A `&[u8]` is Copy: what it owns is had twice, one copy is kept for the exit, and the other goes into the struct and with it to the method.
 -- Assumes nothing.
-use mathlib.Core.Path.{_≡_, refl, sym, ap}
+use mathlib.Core.Path.{_≡_, refl}
 use Prim.Native.Nat.{ℕ}
 use mathlib.Core.List.{List, [], _∷_}
 use lib.Dec.{T as Holds}
