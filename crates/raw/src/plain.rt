@@ -1,4 +1,5 @@
-// What `RawRecord` tells of a record's bytes, for callers that have them as a plain slice.
+// What `RawRecord` tells of a record's bytes, for callers that have them as a plain slice: each function makes the
+// struct and calls the method of its name.
 ghost use mathlib.Core.Path.{_≡_};
 ghost use lib.ListN.{length};
 ghost use Rattle.frames.specs.Frames.{valueOf};

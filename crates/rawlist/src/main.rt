@@ -1,5 +1,6 @@
-// Lists the records of a trace as `tracelist` does, by the forms that hold references: the iterator goes from record to record, and
-// of each record's own bytes `RawRecord` tells the rest. The trace is read from standard input, 65,536 bytes at most.
+// Lists the records of a trace as `tracelist` does, by the forms that hold references: the iterator goes from
+// record to record, and of each record's own bytes `RawRecord` tells the rest. The trace is read from standard
+// input, 65,536 bytes at most.
 mod listing;
 mod record;
 
