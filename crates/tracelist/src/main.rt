@@ -4,25 +4,14 @@ mod line;
 mod listing;
 mod text;
 
-use input::Behind;
-use input::read_more;
-use input::say_failed;
-use input::say_too_long;
+use input::is_all;
 use libc::STDIN_FILENO;
 use listing::list;
 
 fn main() {
     let mut space = io::large_buffer();
     let n = io::read_full(STDIN_FILENO, &mut space);
-    match read_more() {
-        Behind::Nothing => list(&space[..n]),
-        Behind::More => {
-            if n == 65536 {
-                say_too_long();
-            } else {
-                say_failed(b"tracelist");
-            }
-        }
-        Behind::Failed => say_failed(b"tracelist"),
+    if is_all(n, b"tracelist") {
+        list(&space[..n]);
     }
 }
