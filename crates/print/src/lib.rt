@@ -1,4 +1,4 @@
-// What the programs of vectors print their lines with, to standard output.
+// What programs of vectors, and rawlist, print their lines with, to standard output.
 use libc::STDOUT_FILENO;
 
 pub fn text(s: &[u8]) {
