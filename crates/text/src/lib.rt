@@ -1,9 +1,8 @@
-// Which bytes are text: RFC 3629, in one pass, with the lead byte's class from a table of 256.
+// Which bytes are text: RFC 3629, with the lead byte's class from a table of 256.
 ghost use mathlib.Core.Path.{_≡_};
-ghost use mathlib.Core.List.{[]};
-ghost use lib.ListN.{drop};
-ghost use Rattle.numbers.specs.Text.{asks, classOf, utf8, utf8From};
+ghost use Rattle.numbers.specs.Text.{asks, classOf, utf8};
 ghost use Rattle.numbers.specs.Inner.{awaited, Tabulates};
+ghost use Rattle.text.specs.Inner.{highestFrom};
 
 // What the bytes so far still ask for: how many more bytes, and the lowest and the highest that the
 // next may be; the others are tails.
@@ -26,13 +25,13 @@ fn after_lead(class: u8) -> Awaited
     }
 }
 
-// Whether the bytes of s from start on are text. The table is lent, so that no byte builds it anew.
-fn utf8_in(classes: &[u8; 256], s: &[u8], start: usize) -> bool
+// Whether all of s is text, with the table lent, so that no byte builds it anew.
+fn utf8_in(classes: &[u8; 256], s: &[u8]) -> bool
     requires { ⌜ Tabulates classOf 256 (now classes) ⌝ }
-    ensures { λ r. ⌜ r ≡ utf8From [] (drop start (now (s .entry))) ⌝ }
+    ensures { λ r. ⌜ r ≡ utf8 (now (s .entry)) ⌝ }
 {
     let mut next = Awaited(0, 0x80, 0xbf);
-    let mut i = start;
+    let mut i = 0;
     while i < s.len() {
         let b = s[i];
         i = i + 1;
@@ -54,19 +53,31 @@ fn utf8_in(classes: &[u8; 256], s: &[u8], start: usize) -> bool
     next.0 == 0
 }
 
-// Whether all of s is text. The table is made at the first byte that is not ASCII, once.
-pub fn is_utf8(s: &[u8]) -> bool
-    ensures { λ r. ⌜ r ≡ utf8 (now (s .entry)) ⌝ }
+// The highest byte; 0 of none. There is no way out of the loop before its end, so that the compiler
+// takes many bytes at a step.
+fn highest(s: &[u8]) -> u8
+    ensures { λ r. ⌜ r ≡ highestFrom 0 (now (s .entry)) ⌝ }
 {
+    let mut top: u8 = 0;
     let mut i = 0;
     while i < s.len() {
-        if 0x80 <= s[i] {
-            let classes = CLASSES;
-            return utf8_in(&classes, s, i);
+        if top < s[i] {
+            top = s[i];
         }
         i = i + 1;
     }
-    true
+    top
+}
+
+// Whether all of s is text. ASCII is; the table is made for other bytes only, once.
+pub fn is_utf8(s: &[u8]) -> bool
+    ensures { λ r. ⌜ r ≡ utf8 (now (s .entry)) ⌝ }
+{
+    if highest(s) < 0x80 {
+        return true;
+    }
+    let classes = CLASSES;
+    utf8_in(&classes, s)
 }
 
 // The class of each byte as a lead byte: the place of its line in RFC 3629's list, or 9 where it leads

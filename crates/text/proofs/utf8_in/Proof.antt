@@ -2,7 +2,7 @@
 -- Assumes nothing.
 use mathlib.Core.Path.{_≡_, refl, sym, ap, _∙_}
 use mathlib.Core.Bool.{_&&_}
-use mathlib.Core.List.{List, []}
+use mathlib.Core.List.{List}
 use Prim.Native.Nat.{ℕ, _+_, _-_, _<_}
 use native.Mathlib.Omega.{arith}
 use borrow.Author.Needs.{needs}
@@ -10,22 +10,22 @@ use borrow.Author.Tests.{le-leb, lt-leb}
 use lib.Dec.{leb}
 use lib.ListN.{length, drop, getD}
 use Rattle.numbers.specs.Inner.{awaited}
-use Rattle.numbers.specs.Text.{Range, _to_, asks, classOf, utf8From}
+use Rattle.numbers.specs.Text.{Range, _to_, asks, classOf, utf8From, utf8}
 use Rattle.numbers.proofs.TextLaws.{utf8-lead, utf8-next, utf8-end, ascii-asks, awaited-next}
 use Rattle.text.proofs.utf8_in.Statement.{statement}
 use Rattle.text.proofs.utf8_in.Tie as tie
 
 abbrev Inv-loop : tie.InvT-loop
-Inv-loop classes s start next₀ i₀ next i = utf8From (awaited (next .0) (next .1) (next .2)) (drop i s) ≡ utf8From [] (drop start s)
+Inv-loop classes s next₀ i₀ next i = utf8From (awaited (next .0) (next .1) (next .2)) (drop i s) ≡ utf8 s
 
 abbrev μ-loop : tie.MeasureT-loop
-μ-loop classes s start next₀ i₀ next i = length s - i
+μ-loop classes s next₀ i₀ next i = length s - i
 
 -- the byte at i begins a character
 begins : (c : tie.Then1 Inv-loop μ-loop)
     → let l = c .before .before .before .loop in
     let a = c .before .before .before .before .before .args in
-    utf8From (asks (classOf (getD (a .s .now) (l .i) 0))) (drop (l .i + 1) (a .s .now)) ≡ utf8From [] (drop (a .start) (a .s .now))
+    utf8From (asks (classOf (getD (a .s .now) (l .i) 0))) (drop (l .i + 1) (a .s .now)) ≡ utf8 (a .s .now)
 unfolding awaited
 begins c =
     let l = c .before .before .before .loop in
@@ -40,7 +40,7 @@ goes-on : (c : tie.Else1 Inv-loop μ-loop)
     let a = c .before .before .before .before .before .args in
     leb (l .next .1) (getD (a .s .now) (l .i) 0) && leb (getD (a .s .now) (l .i) 0) (l .next .2)
     && utf8From (awaited (l .next .0 - 1) 0x80 0xbf) (drop (l .i + 1) (a .s .now))
-    ≡ utf8From [] (drop (a .start) (a .s .now))
+    ≡ utf8 (a .s .now)
 goes-on c =
     let l = c .before .before .before .loop in
     let n = l .next in
@@ -53,7 +53,7 @@ small : (c : tie.Then2 Inv-loop μ-loop) → getD (c .before .before .before .be
 small c = c .before .before .shared-slice-known2 .given (c .before .before .before .before .loop .i) .fits
 
 loop-holds : tie.Need-loop-holds Inv-loop μ-loop
-unfolding awaited
+unfolding awaited utf8
 loop-holds c = refl
 
 shared-slice-read-b : tie.Need-shared-slice-read-b Inv-loop μ-loop
@@ -103,8 +103,8 @@ returns-2 c =
     let above = c .before .before in
     rw (le-leb _ _ (above .if3 .left), lt-leb _ _ (c .if4 .taken)) at (goes-on (above .before .before))
 
-sub-t18 : tie.Need-sub-t18 Inv-loop μ-loop
-sub-t18 c = omega arith
+sub-t17 : tie.Need-sub-t17 Inv-loop μ-loop
+sub-t17 c = omega arith
 
 loop-less-3 : tie.Need-loop-less-3 Inv-loop μ-loop
 loop-less-3 c = omega arith
@@ -137,7 +137,7 @@ utf8-in-spec =
     loop-again-2
     returns
     returns-2
-    sub-t18
+    sub-t17
     loop-less-3
     loop-again-3
     returns-3)
