@@ -6,8 +6,8 @@ use native.Mathlib.Nat.{zero-add, add-zero, suc-add, one-mul, mul-assoc, pow-zer
 use native.Mathlib.Omega.{arith}
 use lib.Arith.{mod-mul}
 use lib.Dec.{lit<}
-use lib.ListN.{length, take, drop, getD, set, length-drop, take-append-drop}
-use lib.Seq.{drop-cons, take-all, take-take, length-take-le}
+use lib.ListN.{length, take, getD, set}
+use lib.Seq.{drop-cons, take-add, take-length, take-take, length-take-le}
 use Rattle.numbers.specs.Lists.{Bytes, part, splice}
 use Rattle.numbers.specs.Numbers.{leValue, leBytes}
 use Rattle.numbers.proofs.ListLaws.{length-part, part-add, bytes-part}
@@ -111,18 +111,38 @@ leBytes-part s at w h inside =
     ap (λ (k : ℕ). leBytes k (leValue (part s at w))) (sym (length-part s at w inside))
     ∙ leBytes-leValue (part s at w) (bytes-part s at w h)
 
+-- bytes of s from place j on, where its first k stand already and reach to place j at least
+pub splice-moved : (d : List ℕ) (at : ℕ) (s : List ℕ) (k j w : ℕ) → Bytes s → j ≤ k → k ≤ j + w → j + w ≤ length s → at ≤ length d
+    → splice (splice d at (take k s)) (at + j) (leBytes w (leValue (part s j w))) ≡ splice d at (take (j + w) s)
+splice-moved d at s k j w h low high inside room =
+    let size : length (take k s) ≡ k = length-take-le k s (omega arith) in
+    let size-part : length (part s j w) ≡ w = length-part s j w inside in
+    rw (leBytes-part s j w h inside)
+    (splice-over d at (take k s) j (part s j w) (omega arith) (omega arith) room
+    ∙ ap (λ (r : List ℕ). splice d at (r ++ part s j w)) (take-take j k s low)
+    ∙ ap (splice d at) (sym (take-add j w s)))
+
+-- and if they are the last w
+splice-last : (d : List ℕ) (at : ℕ) (s : List ℕ) (k w : ℕ) → Bytes s → length s ≤ k + w → k ≤ length s → w ≤ length s → at ≤ length d
+    → splice (splice d at (take k s)) (at + (length s - w)) (leBytes w (leValue (part s (length s - w) w))) ≡ splice d at s
+splice-last d at s k w h reach inside low room =
+    let all : length s - w + w ≡ length s = omega arith in
+    splice-moved d at s k (length s - w) w h (omega arith) (omega arith) (omega arith) room
+    ∙ ap (λ (n : ℕ). splice d at (take n s)) all
+    ∙ ap (splice d at) (take-length s)
+
 -- the first w bytes of s and its last w, moved as numbers, are all of s if it has no more than twice w
 pub splice-ends : (d : List ℕ) (at : ℕ) (s : List ℕ) (w : ℕ) → Bytes s → w ≤ length s → length s ≤ w + w → at + length s ≤ length d
     → splice (splice d at (leBytes w (leValue (part s 0 w)))) (at + (length s - w)) (leBytes w (leValue (part s (length s - w) w)))
     ≡ splice d at s
 splice-ends d at s w h low high inside =
-    let k : ℕ = length s - w in
-    let first : leBytes w (leValue (part s 0 w)) ≡ take w s = leBytes-part s 0 w h (omega arith) in
-    let whole : take w (drop k s) ≡ drop k s = take-all w (drop k s) (simp length-drop (omega arith)) in
-    let last : leBytes w (leValue (part s k w)) ≡ drop k s = leBytes-part s k w h (omega arith) ∙ whole in
-    let size : length (take w s) ≡ w = length-take-le w s low in
-    let size-last : length (drop k s) ≡ w = simp length-drop (omega arith) in
-    rw (first, last)
-    (splice-over d at (take w s) k (drop k s) (omega arith) (omega arith) (omega arith)
-    ∙ ap (λ (r : List ℕ). splice d at (r ++ drop k s)) (take-take k w s (omega arith))
-    ∙ ap (splice d at) (take-append-drop k s))
+    rw (leBytes-part s 0 w h (omega arith)) (splice-last d at s w w h high low low (omega arith))
+
+-- its first byte, its middle one and its last are all of s if it has no more than three
+pub splice-few : (d : List ℕ) (at : ℕ) (s : List ℕ) → Bytes s → 1 ≤ length s → length s ≤ 3 → at + length s ≤ length d
+    → splice (splice (splice d at (leBytes 1 (leValue (part s 0 1)))) (at + length s / 2) (leBytes 1 (leValue (part s (length s / 2) 1)))) (at + (length s - 1)) (leBytes 1 (leValue (part s (length s - 1) 1)))
+    ≡ splice d at s
+splice-few d at s h low high inside =
+    let m : ℕ = length s / 2 in
+    rw (leBytes-part s 0 1 h low, splice-moved d at s 1 m 1 h (omega arith) (omega arith) (omega arith) (omega arith))
+    (splice-last d at s (m + 1) 1 h (omega arith) (omega arith) low (omega arith))

@@ -2,3 +2,4 @@
 pub mod emit;
 mod judge;
 mod row;
+mod short;

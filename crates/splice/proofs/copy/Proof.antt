@@ -6,23 +6,14 @@ use Rattle.numbers.proofs.SpliceLaws.{rest-is-splice}
 use Rattle.splice.proofs.copy.Statement.{statement}
 use Rattle.splice.proofs.copy.Tie as tie
 
-copy-ends4-requires : tie.Need-copy-ends4-requires
-copy-ends4-requires c κs = search needs
+copy-short-requires : tie.Need-copy-short-requires
+copy-short-requires c κs = search needs
 
 same-length : tie.Need-same-length
 same-length c = search needs
 
 returns : tie.Need-returns
 returns c = search needs
-
-copy-ends8-requires : tie.Need-copy-ends8-requires
-copy-ends8-requires c κs = search needs
-
-same-length-2 : tie.Need-same-length-2
-same-length-2 c = search needs
-
-returns-2 : tie.Need-returns-2
-returns-2 c = search needs
 
 sub-copy : tie.Need-sub-copy
 sub-copy c = search needs
@@ -36,11 +27,11 @@ part-copy-end c = search needs
 copy-requires : tie.Need-copy-requires
 copy-requires c κs = search needs
 
-same-length-3 : tie.Need-same-length-3
-same-length-3 c = search needs
+same-length-2 : tie.Need-same-length-2
+same-length-2 c = search needs
 
-returns-3 : tie.Need-returns-3
-returns-3 c =
+returns-2 : tie.Need-returns-2
+returns-2 c =
     let call = c .before .before in
     let a = call .before .before .before .before .before .args in
     rw (call .copy .ensures .1, take-length (a .s .now)) (rest-is-splice (a .out .now) (a .at) (a .s .now))
@@ -49,15 +40,12 @@ pub copy-spec : {M : Type 1} → statement M
 copy-spec =
     tie.close
     (tie.spec
-    copy-ends4-requires
+    copy-short-requires
     same-length
     returns
-    copy-ends8-requires
-    same-length-2
-    returns-2
     sub-copy
     part-copy-start
     part-copy-end
     copy-requires
-    same-length-3
-    returns-3)
+    same-length-2
+    returns-2)
