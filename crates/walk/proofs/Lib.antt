@@ -1,0 +1,4 @@
+mod StepLaws
+mod CountLaws
+mod WalkLaws
+pub mod CompleteLaws
