@@ -3,8 +3,8 @@
  *
  * Link with the archive libtrace_c.a. Every function here is proved: it ends, for all bytes and all
  * numbers; it reads the bytes that it is lent and no others; it writes what its last argument points
- * to, all of it at every call, and nothing else, save that aglimtaq_write writes a record into `out`. It
- * allocates nothing and keeps nothing: what it is lent is the caller's before, during and after the
+ * to, all of it at every call, and nothing else, save that aglimtaq_write writes a record into `out`, and
+ * a walk writes its three last. It allocates nothing and keeps nothing: what it is lent is the caller's before, during and after the
  * call. A function may run in several threads at once, each with a struct, and an output, of its own.
  *
  * A pointer to bytes is followed by their number; nobody alters them during the call. No pointer is
@@ -137,6 +137,30 @@ struct aglimtaq_entry {
  * each entry's `next`. 1, and the entry; or 0 and zeros, where no whole entry stands there. */
 uint64_t aglimtaq_next_name(const uint8_t *list, size_t length, size_t at,
                             struct aglimtaq_entry *entry);
+
+/* How many whole records follow each other from the first byte on, whatever they hold, and in `end` where
+ * the last of them ends. */
+uint64_t aglimtaq_count(const uint8_t *bytes, size_t length, uint64_t *end);
+
+/* Where a walk ended. */
+struct aglimtaq_end {
+    uint64_t position;
+    uint64_t wanted;  /* the number wanted there, or 0 */
+    uint64_t refused; /* NO_START, where a walk backwards ended so; or 0 */
+};
+
+/* A walk over a whole trace: every reading from 0 on, as aglimtaq_read_next gives them, up to the first that
+ * is not SHOWN or REFUSED_AT. In counts[0] how many records are shown; in counts[n] how many are refused with
+ * n; in sizes[k] how many bytes stand in framed records, shown or refused, of the kind 4 * k. */
+void aglimtaq_walk(const uint8_t *bytes, size_t length, uint64_t counts[8], uint64_t sizes[64],
+                   struct aglimtaq_end *end);
+
+/* The same backwards: every reading from the end on, as aglimtaq_read_previous gives them. */
+void aglimtaq_walk_back(const uint8_t *bytes, size_t length, uint64_t counts[8], uint64_t sizes[64],
+                        struct aglimtaq_end *end);
+
+/* 1 where the bytes are UTF-8 (RFC 3629), as a function's name must be; else 0. */
+uint64_t aglimtaq_is_utf8(const uint8_t *bytes, size_t length);
 
 /* A record to be written. Numbers that its type does not have are not looked at. */
 struct aglimtaq_record {

@@ -8,6 +8,7 @@ use Rattle.contents.specs.declared.names.NextName.{NextName}
 use Rattle.contents.specs.declared.names.NextName.the-variants as next
 use Rattle.traces.specs.declared.read.Reading.{Reading}
 use Rattle.flat.specs.Shown.{flatAnswer}
+use Rattle.walk.specs.declared.walk.End.{End}
 
 -- ---- struct aglimtaq_reading
 
@@ -33,3 +34,8 @@ flatName next.Finished = 0 ∷ 0 ∷ 0 ∷ 0 ∷ []
 unfoldable pub nameNumber : NextName → ℕ
 nameNumber (next.Named e q) = 1
 nameNumber next.Finished = 0
+
+-- ---- struct aglimtaq_end
+
+unfoldable pub flatEnd : End → List ℕ
+flatEnd e = e .position ∷ e .wanted ∷ e .refused ∷ []

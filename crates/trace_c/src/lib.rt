@@ -1,6 +1,8 @@
 // The functions that C and Rust call. include/trace.h says what each argument is and what each number
 // means; a struct there is here the array of its numbers.
 mod read;
+mod utf8;
+mod whole;
 mod write;
 
 pub use read::aglimtaq_next_name;
@@ -9,4 +11,8 @@ pub use read::aglimtaq_parse;
 pub use read::aglimtaq_read_next;
 pub use read::aglimtaq_read_previous;
 pub use read::aglimtaq_value;
+pub use utf8::aglimtaq_is_utf8;
+pub use whole::aglimtaq_count;
+pub use whole::aglimtaq_walk;
+pub use whole::aglimtaq_walk_back;
 pub use write::aglimtaq_write;

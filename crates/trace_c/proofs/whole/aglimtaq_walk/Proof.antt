@@ -1,0 +1,28 @@
+-- `trace_c::whole::aglimtaq_walk` meets its contract: the walk forwards, and its end as numbers.
+-- Assumes nothing.
+use mathlib.Core.Path.{ap}
+use borrow.Author.Needs.{needs}
+use Rattle.trace_c.specs.Flat.{flatEnd}
+use Rattle.trace_c.proofs.whole.aglimtaq_walk.Statement.{statement}
+use Rattle.trace_c.proofs.whole.aglimtaq_walk.Tie as tie
+use Rattle.trace_c.proofs.whole.aglimtaq_walk.Reads as reads
+use Rattle.trace_c.proofs.whole.aglimtaq_walk.Lts as lts
+use Rattle.walk.proofs.walk.walk.Reads as walk-reads
+
+-- src/whole.rt:26:9
+walk-requires : tie.Need-walk-requires
+walk-requires c κs = search needs
+
+-- src/whole.rt:30:9
+cast-t10 : tie.Need-cast-t10
+cast-t10 c = search needs
+
+-- src/whole.rt:20:1
+returns : tie.Need-returns
+unfolding flatEnd
+returns c =
+    let w = c .before .before .walk .ensures in
+    (w .1 .0, (w .1 .1, ap flatEnd (w .0)))
+
+pub aglimtaq-walk-spec : {M : Type 1} → statement M
+aglimtaq-walk-spec = tie.close (tie.spec walk-requires cast-t10 returns)
