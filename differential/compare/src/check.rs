@@ -2,7 +2,8 @@
 
 use crate::ours;
 use crate::tally::Tally;
-use compare::answer::{Answer, Entry, FINISHED, SHOWN, UNFINISHED};
+use crate::whole::Adding;
+use compare::answer::{Answer, Entry, SHOWN};
 use compare::source::{self, Said};
 
 const REGISTER_NAME_MAP: u64 = 3;
@@ -19,54 +20,65 @@ pub fn check(bytes: &[u8], tally: &mut Tally) {
     walk_back(bytes, tally);
     tally.hold("value", 0, &source::value(bytes), &ours::value(bytes));
     parse(bytes, tally);
+    tally.inside("is_utf8", 0, &u64::from(std::str::from_utf8(bytes).is_ok()), &ours::is_utf8(bytes));
     beyond(bytes, tally);
     tally.end(bytes);
 }
 
 /// From record to record, each call at the position that ours handed back, up to the first difference; by turns also
-/// back from there.
+/// back from there. What the calls add up to is held against the one call that walks over all.
 fn walk(bytes: &[u8], tally: &mut Tally) {
-    let mut position = 0;
+    let (mut position, mut adding) = (0, Adding::new());
     loop {
         let said = source::next(bytes, position);
         let ours = ours::read_next(bytes, position);
         if !tally.hold("read_next, position", position as u64, &said, &ours) {
             return;
         }
-        match said.says.answer {
-            FINISHED | UNFINISHED => break,
-            SHOWN if said.says.record_type == REGISTER_NAME_MAP => names(bytes, &said.says, tally),
-            _ => {}
+        if adding.add(bytes, &said) {
+            break;
+        }
+        if (said.says.answer, said.says.record_type) == (SHOWN, REGISTER_NAME_MAP) {
+            names(bytes, &said.says, tally);
         }
         position = ours.position as usize;
         if tally.turn(&[true, false]) {
             previous(bytes, position, tally);
         }
     }
+    tally.inside("count", 0, &adding.framed(), &ours::count(bytes));
+    tally.hold("walk", 0, &adding.said(), &ours::walk(bytes));
 }
 
-/// From the end on backwards, each call at the position that ours handed back; and at any position.
+/// From the end on backwards, each call at the position that ours handed back, and what they add up to; and at any
+/// position.
 fn walk_back(bytes: &[u8], tally: &mut Tally) {
-    let mut position = Some(bytes.len());
+    let (mut position, mut adding) = (bytes.len(), Adding::new());
     for _ in 0..BACK {
-        position = position.and_then(|position| previous(bytes, position, tally));
+        let said = previous(bytes, position, tally);
+        if adding.add(bytes, &said) {
+            tally.hold("walk_back", 0, &adding.said(), &ours::walk_back(bytes));
+            break;
+        }
+        position = said.says.position as usize;
     }
     let any = tally.random().below(bytes.len() + 1);
     previous(bytes, any, tally);
 }
 
-/// The record that ends at `position`; where it starts, if ours says the same.
-fn previous(bytes: &[u8], position: usize, tally: &mut Tally) -> Option<usize> {
+/// The record that ends at `position`: what must be answered, and ours is held against.
+fn previous(bytes: &[u8], position: usize, tally: &mut Tally) -> Said<Answer> {
     let (what, at) = ("read_previous, position", position as u64);
     let ours = ours::read_previous(bytes, position);
     match source::start(bytes, position) {
         Ok(start) => {
             let said = source::previous(bytes, start, position);
-            tally.hold(what, at, &said, &ours).then_some(start)
+            tally.hold(what, at, &said, &ours);
+            said
         }
         Err(none) => {
             tally.unframed(what, at, &none, &ours);
-            None
+            Said::inside(none)
         }
     }
 }

@@ -6,6 +6,7 @@ mod check_write;
 mod listing;
 mod ours;
 mod tally;
+mod whole;
 
 use compare::classes::{writing, Run, CLASSES};
 use std::path::Path;

@@ -1,5 +1,6 @@
 //! What the proved codec answers, by the C interface of include/trace.h.
 
+use crate::whole::Whole;
 use compare::answer::{Answer, Entry, FlatRecord, Part, Value};
 
 extern "C" {
@@ -9,6 +10,10 @@ extern "C" {
     fn aglimtaq_one_record(bytes: *const u8, length: usize) -> u64;
     fn aglimtaq_value(bytes: *const u8, length: usize, part: *mut Part) -> u64;
     fn aglimtaq_next_name(list: *const u8, length: usize, at: usize, entry: *mut Entry) -> u64;
+    fn aglimtaq_is_utf8(bytes: *const u8, length: usize) -> u64;
+    fn aglimtaq_count(bytes: *const u8, length: usize, end: *mut u64) -> u64;
+    fn aglimtaq_walk(bytes: *const u8, length: usize, counts: *mut u64, sizes: *mut u64, end: *mut u64);
+    fn aglimtaq_walk_back(bytes: *const u8, length: usize, counts: *mut u64, sizes: *mut u64, end: *mut u64);
     fn aglimtaq_write(
         out: *mut u8,
         room: usize,
@@ -71,6 +76,36 @@ pub fn next_name(list: &[u8], at: usize) -> (u64, Entry) {
     let mut entry = Entry { number: x, name_start: x, name_end: x, next: x };
     let there = unsafe { aglimtaq_next_name(list.as_ptr(), list.len(), at, &mut entry) };
     (there, entry)
+}
+
+pub fn is_utf8(bytes: &[u8]) -> u64 {
+    unsafe { aglimtaq_is_utf8(bytes.as_ptr(), bytes.len()) }
+}
+
+/// How many records follow each other from the first byte on, and where the last ends.
+pub fn count(bytes: &[u8]) -> (u64, u64) {
+    let mut end = UNWRITTEN;
+    let records = unsafe { aglimtaq_count(bytes.as_ptr(), bytes.len(), &mut end) };
+    (records, end)
+}
+
+pub fn walk(bytes: &[u8]) -> Whole {
+    whole(bytes, aglimtaq_walk)
+}
+
+pub fn walk_back(bytes: &[u8]) -> Whole {
+    whole(bytes, aglimtaq_walk_back)
+}
+
+type Walk = unsafe extern "C" fn(*const u8, usize, *mut u64, *mut u64, *mut u64);
+
+fn whole(bytes: &[u8], walk: Walk) -> Whole {
+    let x = UNWRITTEN;
+    let (mut counts, mut sizes, mut end) = ([x; 8], [x; 64], [x; 3]);
+    let (to_counts, to_sizes) = (counts.as_mut_ptr(), sizes.as_mut_ptr());
+    unsafe { walk(bytes.as_ptr(), bytes.len(), to_counts, to_sizes, end.as_mut_ptr()) };
+    let [position, wanted, refused] = end;
+    Whole { counts, sizes, position, wanted, refused }
 }
 
 /// What writing says, and the next position. The output is `out` without `around` bytes on each side.
