@@ -98,20 +98,28 @@ fn original(given: &Given, out: &mut Vec<u8>) -> bool {
 /// The record as the original makes it. Unknown types, and lists that are more than their entries, it makes only by
 /// reading them in `frame`.
 fn record<'a>(given: &'a Given, frame: &'a mut Vec<u8>) -> Option<Record<'a>> {
-    let FlatRecord { record_type, numbers: [a, b, c] } = given.record;
-    let data = &given.bytes[..];
+    let (tag, data) = (given.record.numbers[0] as u8, &given.bytes[..]);
+    match given.record.record_type {
+        3 => made(given.record, data).or_else(|| parsed(FILE_META, &[0, tag], data, frame)),
+        4 => parsed(FILE_META, &[tag], data, frame),
+        21 => parsed(META, &[tag], data, frame),
+        _ => made(given.record, data),
+    }
+}
+
+/// The record as a caller of the original makes it without reading; none where he cannot.
+pub fn made(record: FlatRecord, data: &[u8]) -> Option<Record<'_>> {
+    let FlatRecord { record_type, numbers: [a, b, c] } = record;
     let record = match record_type {
         1 => Record::Magic,
         3 => match entries(data) {
             (entries, []) if entries.len() as u64 == a => RegisterNameMap::new(entries.into_iter()).into(),
-            _ => parsed(FILE_META, &[0, a as u8], data, frame)?,
+            _ => return None,
         },
-        4 => parsed(FILE_META, &[a as u8], data, frame)?,
         5 => Map::new(a, data).into(),
         6 => Unmap::new(a, b).into(),
         7 => Instruction::new(a, data).into(),
         8 => Pc::new(a).into(),
-        21 => parsed(META, &[a as u8], data, frame)?,
         22 => Interrupt::new(a as u32, b).into(),
         23 => RegRead::new(a as u32, data).into(),
         24 => RegWrite::new(a as u32, data).into(),

@@ -1,0 +1,132 @@
+//! Times the proved codec beside the original; `bench`, which builds it, says how it is called.
+
+mod baseline;
+mod names;
+mod ours;
+mod pool;
+mod race;
+mod report;
+mod stage;
+mod tasks;
+mod trace;
+
+use names::{Names, SETS};
+use pool::{gather, tell, Races, PROCESSES};
+use race::{race, ROUNDS};
+use stage::{Input, Stage};
+use std::process::ExitCode;
+use tasks::{Task, OURS, WALKS, WORKLOADS};
+use trace::{cut, originals, room, Plan};
+
+const MIB: usize = 1 << 20;
+
+/// How much of the trace is walked, in MiB: the last is all of it.
+const PARTS: [usize; 4] = [1, 4, 16, 64];
+
+/// How much there is to do: where instructions are counted, less.
+struct Amount {
+    trace: usize,
+    records: usize,
+    names: usize,
+}
+
+const TIMED: Amount = Amount { trace: 64 * MIB, records: 1_000_000, names: 100_000 };
+const COUNTED: Amount = Amount { trace: MIB, records: 20_000, names: 2_000 };
+
+fn main() -> ExitCode {
+    let words: Vec<String> = std::env::args().skip(1).collect();
+    let words: Vec<&str> = words.iter().map(|word| &word[..]).collect();
+    let mut missed = 0;
+    match words[..] {
+        [] => _ = timed(),
+        ["--hold"] => missed = timed(),
+        ["--rounds"] => rounds(),
+        ["--tasks"] => list(),
+        ["--count", workload, side] => count(workload, side),
+        ["--counted"] => {
+            report::counted(&std::io::read_to_string(std::io::stdin()).expect("counts on standard input"));
+        }
+        _ => panic!("unknown arguments: {words:?}"),
+    }
+    ExitCode::from(u8::from(missed > 0))
+}
+
+/// Makes all inputs, and has them used.
+fn staged<T>(amount: Amount, work: impl FnOnce(&mut Stage) -> T) -> T {
+    let trace = trace::trace(amount.trace);
+    let plan = Plan::new(amount.records);
+    let given = plan.given();
+    let records = originals(&given);
+    let names: Vec<Names> = (0..SETS).map(|set| Names::new(set, amount.names)).collect();
+    let names: Vec<Vec<&[u8]>> = names.iter().map(|set| set.all()).collect();
+    let mut stage = Stage::new(&trace, &given, &records, &names, room(&records));
+    work(&mut stage)
+}
+
+/// What one process does: all races.
+fn rounds() {
+    staged(TIMED, |stage| {
+        for workload in &WORKLOADS {
+            stage.choose(workload.input);
+            let rounds = race(stage, &workload.tasks(), workload.input);
+            tell(workload.name, stage.size(workload.input), &rounds);
+        }
+        let trace = stage.trace;
+        for part in PARTS {
+            stage.trace = cut(trace, part * MIB);
+            let rounds = race(stage, &WALKS, Input::Trace);
+            tell(&named(part), stage.size(Input::Trace), &rounds);
+        }
+    })
+}
+
+/// The name of the race on so much of the trace.
+fn named(part: usize) -> String {
+    format!("{part}_MiB")
+}
+
+/// All tables of times; how many targets are missed.
+fn timed() -> usize {
+    let races = gather();
+    let (trace, written) = (races["b"].size, races["c"].size);
+    println!("The trace: {} records, {} bytes.", trace.units, trace.bytes);
+    println!("Written: {} records, {} bytes.", written.units, written.bytes);
+    println!("Names: {} of each kind.", TIMED.names);
+    println!("In a round every side runs once; the first of a process warms, and is not counted.");
+    println!("A time is the median of {PROCESSES} processes of {ROUNDS} rounds each, or more.");
+    println!("It is for one record or name. MB: a million bytes.");
+    report::comparisons_head();
+    let missed = WORKLOADS.iter().map(|workload| report::comparisons(workload, &races[workload.name])).sum();
+    println!("\nTargets missed: {missed}.");
+    grown(&races);
+    missed
+}
+
+fn grown(races: &Races) {
+    let parts = PARTS.map(|part| &races[&named(part)]);
+    println!("\nThe walks beside a plain copy of the trace:");
+    report::beside_copy(parts[parts.len() - 1]);
+    println!("\nThe same on the first part of the trace, and on ever more of it:");
+    report::growth(&PARTS.map(|part| format!("{part} MiB")), &parts);
+}
+
+/// The tasks whose instructions are counted: workload, side, and the name of the function.
+fn list() {
+    for workload in &WORKLOADS {
+        let own = |task: &&Task| task.side != OURS || std::ptr::eq(*task, workload.ours);
+        for task in workload.tasks().into_iter().filter(own) {
+            println!("{} {} {}", workload.name, task.side, task.symbol);
+        }
+    }
+}
+
+/// Runs one task once, and says how many records or names it went through.
+fn count(name: &str, side: &str) {
+    let workload = WORKLOADS.iter().find(|workload| workload.name == name).expect("a workload");
+    let task = workload.tasks().into_iter().find(|task| task.side == side).expect("a side");
+    staged(COUNTED, |stage| {
+        stage.choose(workload.input);
+        (task.run)(stage);
+        println!("{}", stage.size(workload.input).units);
+    })
+}

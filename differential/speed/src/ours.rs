@@ -1,0 +1,110 @@
+//! The proved codec's side of each workload, by the C interface of include/trace.h.
+
+use crate::stage::{Stage, Tally, COUNT, END, KINDS};
+use compare::answer::{Answer, FlatRecord, REFUSED_AT, SHOWN};
+use std::hint::black_box;
+
+extern "C" {
+    fn aglimtaq_count(bytes: *const u8, length: usize, end: *mut u64) -> u64;
+    fn aglimtaq_walk(bytes: *const u8, length: usize, counts: *mut u64, sizes: *mut u64, end: *mut u64);
+    fn aglimtaq_walk_back(bytes: *const u8, length: usize, counts: *mut u64, sizes: *mut u64, end: *mut u64);
+    fn aglimtaq_is_utf8(bytes: *const u8, length: usize) -> u64;
+    fn aglimtaq_read_next(bytes: *const u8, length: usize, position: usize, reading: *mut Answer);
+    fn aglimtaq_read_previous(bytes: *const u8, length: usize, position: usize, reading: *mut Answer);
+    fn aglimtaq_write(
+        out: *mut u8,
+        room: usize,
+        position: usize,
+        record: *const FlatRecord,
+        bytes: *const u8,
+        length: usize,
+        next: *mut u64,
+    ) -> u64;
+}
+
+type Read = unsafe extern "C" fn(*const u8, usize, usize, *mut Answer);
+type Walk = unsafe extern "C" fn(*const u8, usize, *mut u64, *mut u64, *mut u64);
+
+#[no_mangle]
+#[inline(never)]
+pub extern "C" fn speed_a_ours(stage: &mut Stage) {
+    let trace = stage.trace;
+    stage.answer[COUNT] = unsafe { aglimtaq_count(trace.as_ptr(), trace.len(), &mut stage.answer[END]) };
+}
+
+#[no_mangle]
+#[inline(never)]
+pub extern "C" fn speed_b_ours(stage: &mut Stage) {
+    walk(stage, aglimtaq_walk);
+}
+
+#[no_mangle]
+#[inline(never)]
+pub extern "C" fn speed_c_ours(stage: &mut Stage) {
+    let (room, mut position, mut accepted) = (stage.out.len(), 0, 0);
+    let out = stage.out.as_mut_ptr();
+    for (record, bytes) in stage.given {
+        let mut next = 0;
+        let refused =
+            unsafe { aglimtaq_write(out, room, position, record, bytes.as_ptr(), bytes.len(), &mut next) };
+        accepted += u64::from(refused == 0);
+        position = next as usize;
+    }
+    stage.answer[END] = position as u64;
+    stage.answer[COUNT] = accepted;
+}
+
+#[no_mangle]
+#[inline(never)]
+pub extern "C" fn speed_d_ours(stage: &mut Stage) {
+    walk(stage, aglimtaq_walk_back);
+}
+
+#[no_mangle]
+#[inline(never)]
+pub extern "C" fn speed_e_ours(stage: &mut Stage) {
+    let names = stage.names.iter();
+    stage.answer[COUNT] = names.map(|name| unsafe { aglimtaq_is_utf8(name.as_ptr(), name.len()) }).sum();
+}
+
+#[no_mangle]
+#[inline(never)]
+pub extern "C" fn speed_f_ours(stage: &mut Stage) {
+    calls(stage, 0, aglimtaq_read_next);
+}
+
+#[no_mangle]
+#[inline(never)]
+pub extern "C" fn speed_f_back_ours(stage: &mut Stage) {
+    calls(stage, stage.trace.len(), aglimtaq_read_previous);
+}
+
+/// One call for the whole trace. What it counts lies where `Tally` has it.
+#[inline(always)]
+fn walk(stage: &mut Stage, walk: Walk) {
+    let answer: &mut Tally = &mut stage.answer;
+    let (end, counts) = answer.split_at_mut(COUNT);
+    let (counts, sizes) = counts.split_at_mut(KINDS - COUNT);
+    let trace = stage.trace;
+    unsafe {
+        walk(trace.as_ptr(), trace.len(), counts.as_mut_ptr(), sizes.as_mut_ptr(), end[END..].as_mut_ptr())
+    };
+}
+
+/// One call for each record, and every field of what it hands back is used.
+#[inline(always)]
+fn calls(stage: &mut Stage, mut position: usize, read: Read) {
+    let (mut reading, mut shown) = (Answer::default(), 0);
+    loop {
+        unsafe { read(stage.trace.as_ptr(), stage.trace.len(), position, &mut reading) };
+        black_box(&reading);
+        position = reading.position as usize;
+        match reading.answer {
+            SHOWN => shown += 1,
+            REFUSED_AT => {}
+            _ => break,
+        }
+    }
+    stage.answer[END] = position as u64;
+    stage.answer[COUNT] = shown;
+}

@@ -1,0 +1,51 @@
+//! Times tasks side by side: in each round each of them, one after the other, on the same input.
+
+use crate::stage::{Input, Stage, Tally, COUNT, END};
+use crate::tasks::Task;
+use std::time::{Duration, Instant};
+
+/// So many rounds at least, and more until so much time is spent.
+pub const ROUNDS: usize = 3;
+const SPENT: Duration = Duration::from_millis(100);
+
+/// Of each task the times of all rounds, in nanoseconds.
+pub fn race(stage: &mut Stage, tasks: &[&Task], input: Input) -> Vec<Vec<u64>> {
+    agree(stage, tasks, input);
+    let mut rounds = vec![Vec::new(); tasks.len()];
+    let begin = Instant::now();
+    while rounds[0].len() < ROUNDS || begin.elapsed() < SPENT {
+        for (task, times) in tasks.iter().zip(&mut rounds) {
+            times.push(once(stage, task).as_nanos() as u64);
+        }
+    }
+    rounds
+}
+
+fn once(stage: &mut Stage, task: &Task) -> Duration {
+    stage.answer = [0; 75];
+    let begin = Instant::now();
+    (task.run)(stage);
+    begin.elapsed()
+}
+
+/// The round before all others, which is not counted: it warms caches. Every task must go through the whole input, and
+/// all that tally must find the same.
+fn agree(stage: &mut Stage, tasks: &[&Task], input: Input) {
+    let size = stage.size(input);
+    let mut first: Option<(Tally, &Task)> = None;
+    for task in tasks {
+        once(stage, task);
+        let found = stage.answer;
+        let end = if task.ends_at_0() { 0 } else { size.bytes };
+        assert_eq!(found[END], end, "{} ends elsewhere", task.symbol);
+        let count = if task.workload == "copy" { 0 } else { size.units };
+        assert_eq!(found[COUNT], count, "{} finds another number", task.symbol);
+        if task.tallies() {
+            let (expected, other) = *first.get_or_insert((found, task));
+            assert_eq!(found[1..], expected[1..], "{} and {} do not agree", task.symbol, other.symbol);
+        }
+    }
+    if input == Input::Records {
+        assert!(stage.out[..stage.room] == stage.emitted, "what is written is not the same");
+    }
+}

@@ -1,0 +1,81 @@
+//! What the tasks work on: inputs and outputs, made and touched before any task is timed.
+
+use compare::answer::FlatRecord;
+use dynamic_trace::record::Record;
+use dynamic_trace::TraceBuffer;
+
+/// What a task found, as aglimtaq_walk tells it: where it ended, the number wanted and the refusal there; how many
+/// records are shown; how many are refused, by number; the bytes of each kind.
+pub type Tally = [u64; 75];
+
+pub const END: usize = 0;
+pub const COUNT: usize = 3;
+pub const REFUSED: usize = 4;
+pub const KINDS: usize = 11;
+
+/// A record to be written, and the bytes that are handed over with it.
+pub type Given<'a> = (FlatRecord, &'a [u8]);
+
+/// Which of the inputs a workload takes.
+#[derive(Clone, Copy, PartialEq)]
+pub enum Input {
+    Trace,
+    Records,
+    /// One of the sets of names.
+    Names(usize),
+}
+
+/// How many records or names, and how many bytes.
+#[derive(Clone, Copy)]
+pub struct Size {
+    pub units: u64,
+    pub bytes: u64,
+}
+
+pub struct Stage<'a> {
+    pub trace: &'a [u8],
+    /// The same records twice, as each side takes them.
+    pub given: &'a [Given<'a>],
+    pub records: &'a [Record<'a>],
+    /// The sets of names, and the one that is in use.
+    pub sets: &'a [Vec<&'a [u8]>],
+    pub names: &'a [&'a [u8]],
+    /// Ours writes here, and the copy.
+    pub out: Vec<u8>,
+    /// The original appends here.
+    pub emitted: Vec<u8>,
+    /// How many bytes all records have when they are written.
+    pub room: usize,
+    pub answer: Tally,
+}
+
+impl<'a> Stage<'a> {
+    /// Both outputs have `room` bytes or more, all written here: so no task is the first to touch a page.
+    pub fn new(
+        trace: &'a [u8],
+        given: &'a [Given<'a>],
+        records: &'a [Record<'a>],
+        sets: &'a [Vec<&'a [u8]>],
+        room: usize,
+    ) -> Self {
+        let (out, mut emitted) = (vec![1; room.max(trace.len())], vec![1; room]);
+        emitted.clear();
+        Stage { trace, given, records, sets, names: &[], out, emitted, room, answer: [0; 75] }
+    }
+
+    pub fn choose(&mut self, input: Input) {
+        if let Input::Names(set) = input {
+            self.names = &self.sets[set];
+        }
+    }
+
+    /// What there is of an input.
+    pub fn size(&self, input: Input) -> Size {
+        let (units, bytes) = match input {
+            Input::Names(_) => (self.names.len(), self.names.iter().map(|name| name.len()).sum()),
+            Input::Records => (self.records.len(), self.room),
+            Input::Trace => (TraceBuffer::new(self.trace).iter().count(), self.trace.len()),
+        };
+        Size { units: units as u64, bytes: bytes as u64 }
+    }
+}

@@ -1,0 +1,111 @@
+//! The workloads: what is timed, against what, and the targets.
+
+use crate::baseline::*;
+use crate::names::*;
+use crate::ours::*;
+use crate::stage::{Input, Stage};
+
+/// The work of one side in one workload. It is one function, so that its instructions can be counted by its name.
+pub struct Task {
+    pub workload: &'static str,
+    pub side: &'static str,
+    pub symbol: &'static str,
+    pub run: extern "C" fn(&mut Stage),
+}
+
+type Others = &'static [(&'static Task, Option<f64>)];
+
+pub struct Workload {
+    pub name: &'static str,
+    pub title: &'static str,
+    pub input: Input,
+    pub ours: &'static Task,
+    /// What ours is held against, and how much of their time it may take.
+    pub others: Others,
+}
+
+pub const OURS: &str = "ours";
+
+macro_rules! tasks {
+    ($($name:ident: $workload:literal, $side:expr, $run:ident;)*) => {
+        $(pub static $name: Task =
+            Task { workload: $workload, side: $side, symbol: stringify!($run), run: $run };)*
+    };
+}
+
+tasks! {
+    A_OURS: "a", OURS, speed_a_ours;
+    A_ORIGINAL: "a", "original", speed_a_original;
+    B_OURS: "b", OURS, speed_b_ours;
+    B_ORIGINAL: "b", "original", speed_b_original;
+    B_LAZY: "b", "lazy", speed_b_lazy;
+    C_OURS: "c", OURS, speed_c_ours;
+    C_ORIGINAL: "c", "original", speed_c_original;
+    D_OURS: "d", OURS, speed_d_ours;
+    E_OURS: "e", OURS, speed_e_ours;
+    E_STD: "e", "std", speed_e_std;
+    F_OURS: "f", OURS, speed_f_ours;
+    F_ORIGINAL: "f", "original", speed_f_original;
+    F_LAZY: "f", "lazy", speed_f_lazy;
+    F_BACK_OURS: "f_back", OURS, speed_f_back_ours;
+    COPY: "copy", "plain", speed_copy;
+}
+
+const fn on_trace(title: &'static str, ours: &'static Task, others: Others) -> Workload {
+    Workload { name: ours.workload, title, input: Input::Trace, ours, others }
+}
+
+const fn on_names(name: &'static str, title: &'static str, set: usize, others: Others) -> Workload {
+    Workload { name, title, input: Input::Names(set), ours: &E_OURS, others }
+}
+
+pub static WORKLOADS: [Workload; 11] = [
+    on_trace("frames only", &A_OURS, &[(&A_ORIGINAL, Some(0.5))]),
+    on_trace("every record parsed", &B_OURS, &[(&B_ORIGINAL, Some(0.35)), (&B_LAZY, Some(1.0))]),
+    Workload {
+        name: "c",
+        title: "records written",
+        input: Input::Records,
+        ours: &C_OURS,
+        others: &[(&C_ORIGINAL, Some(0.7))],
+    },
+    on_trace("every record parsed, backwards", &D_OURS, &[(&B_OURS, Some(1.2))]),
+    on_names("e", "names, ASCII, 32 bytes", ASCII, &[(&E_STD, Some(1.5))]),
+    on_names("e_any", "the same, at any address", ASCII_ANYWHERE, &[(&E_STD, None)]),
+    on_names("e_short", "names, ASCII, 8 to 31 bytes", ASCII_SHORTER, &[(&E_STD, None)]),
+    on_names("e_few", "names, 1 or 2 other characters", FEW_OTHERS, &[(&E_STD, None)]),
+    on_names("e_most", "names, 10 three-byte characters", MOSTLY_OTHERS, &[(&E_STD, None)]),
+    on_trace("one call for each record", &F_OURS, &[(&F_ORIGINAL, Some(1.0)), (&F_LAZY, None)]),
+    on_trace("one call for each record, backwards", &F_BACK_OURS, &[(&F_OURS, None)]),
+];
+
+/// What is timed on traces that grow, beside a plain copy of them.
+pub static WALKS: [&Task; 10] =
+    [&COPY, &A_OURS, &A_ORIGINAL, &B_OURS, &B_ORIGINAL, &B_LAZY, &D_OURS, &F_OURS, &F_ORIGINAL, &F_LAZY];
+
+impl Workload {
+    /// Ours first.
+    pub fn tasks(&self) -> Vec<&'static Task> {
+        std::iter::once(self.ours).chain(self.others.iter().map(|other| other.0)).collect()
+    }
+}
+
+impl Task {
+    /// How a table names it beside ours.
+    pub fn shown(&self) -> String {
+        match self.side {
+            OURS => format!("ours ({})", self.workload),
+            side => side.to_string(),
+        }
+    }
+
+    /// Whether it tells the bytes of each kind, and how many records are refused.
+    pub fn tallies(&self) -> bool {
+        ["b", "d"].contains(&self.workload)
+    }
+
+    /// Whether it ends at the first byte; names have no end.
+    pub fn ends_at_0(&self) -> bool {
+        ["d", "e", "f_back"].contains(&self.workload)
+    }
+}
