@@ -1,0 +1,100 @@
+/* Work for counting instructions through include/trace.h: a mix of records written, and the trace that they make read in
+ * each way. `speed` prints how many records there are; each kind of work is one function, named after its workload in
+ * docs/SPEED.md. */
+#include "trace.h"
+
+#include <stdio.h>
+
+enum { RECORDS = 20000, ROOM = 1 << 20 };
+
+static uint8_t out[ROOM];
+static uint64_t length;
+static uint8_t given[64];
+static struct aglimtaq_record records[RECORDS];
+static size_t sizes[RECORDS];
+
+/* Numbers that look random, the same at every run. */
+static uint32_t next_number(void)
+{
+    static uint32_t state = 1;
+    state = state * 1664525u + 1013904223u;
+    return state >> 16;
+}
+
+/* Instructions of 2 to 15 bytes, registers, memory of 1 to 8 bytes, and now and then a record that holds numbers. */
+static void make(int i)
+{
+    static const uint64_t types[8] = {AGLIMTAQ_INSTRUCTION, AGLIMTAQ_INSTRUCTION, AGLIMTAQ_INSTRUCTION,
+                                      AGLIMTAQ_INSTRUCTION, AGLIMTAQ_REG_WRITE,   AGLIMTAQ_REG_READ,
+                                      AGLIMTAQ_MEM_READ,    AGLIMTAQ_MEM_WRITE};
+    uint64_t type = next_number() % 16 == 0 ? AGLIMTAQ_INSTRUCTION_COUNT : types[next_number() % 8];
+    records[i].type = type;
+    records[i].numbers[0] = next_number();
+    sizes[i] = type == AGLIMTAQ_INSTRUCTION                                     ? 2 + next_number() % 14
+               : type == AGLIMTAQ_MEM_READ || type == AGLIMTAQ_MEM_WRITE ? (size_t)1 << next_number() % 4
+                                                                                 : 8;
+}
+
+__attribute__((noinline)) int work_c(void)
+{
+    length = 0;
+    for (int i = 0; i < RECORDS; i++)
+        if (aglimtaq_write(out, ROOM, length, &records[i], given, sizes[i], &length) != 0)
+            return 0;
+    return 1;
+}
+
+__attribute__((noinline)) int work_a(void)
+{
+    uint64_t end;
+    return aglimtaq_count(out, length, &end) == RECORDS && end == length;
+}
+
+__attribute__((noinline)) int work_b(void)
+{
+    uint64_t counts[8], kinds[64];
+    struct aglimtaq_end end;
+    aglimtaq_walk(out, length, counts, kinds, &end);
+    return counts[0] == RECORDS && end.position == length;
+}
+
+__attribute__((noinline)) int work_d(void)
+{
+    uint64_t counts[8], kinds[64];
+    struct aglimtaq_end end;
+    aglimtaq_walk_back(out, length, counts, kinds, &end);
+    return counts[0] == RECORDS && end.position == 0;
+}
+
+__attribute__((noinline)) int work_e(void)
+{
+    int names = 0;
+    for (int i = 0; i < RECORDS; i++)
+        names += (int)aglimtaq_is_utf8(given + i % 32, 32);
+    return names == RECORDS;
+}
+
+__attribute__((noinline)) int work_f(void)
+{
+    struct aglimtaq_reading r = {0};
+    int shown = -1;
+    do {
+        aglimtaq_read_next(out, length, r.position, &r);
+        shown++;
+    } while (r.answer == AGLIMTAQ_SHOWN);
+    return shown == RECORDS && r.answer == AGLIMTAQ_FINISHED;
+}
+
+int main(void)
+{
+    for (int i = 0; i < 64; i++)
+        given[i] = (uint8_t)('a' + i % 26);
+    for (int i = 0; i < RECORDS; i++)
+        make(i);
+    if (!work_c() || !work_a() || !work_b() || !work_d() || !work_e() || !work_f()) {
+        fprintf(stderr, "the records are not all written, read or counted\n");
+        return 1;
+    }
+    printf("%d\n", RECORDS);
+    return 0;
+}
