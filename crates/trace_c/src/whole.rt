@@ -47,10 +47,10 @@ pub extern "C" fn aglimtaq_walk_back(
     ensures { λ _. ⌜ now (sizes .exit) ≡ sizesOf (now (bytes .entry)) (back (now (bytes .entry))) ⌝ }
     ensures { λ _. ⌜ now (end .exit) ≡ flatEnd (endOf (back (now (bytes .entry)))) ⌝ }
 {
-    let reached = walk_back(bytes, counts, sizes);
+    let start = walk_back(bytes, counts, sizes);
     *end = [
-        reached.position as u64,
-        reached.wanted as u64,
-        reached.refused as u64,
+        start.position as u64,
+        start.wanted as u64,
+        start.refused as u64,
     ];
 }
