@@ -1,9 +1,9 @@
 // Whole traces, by numbers and byte slices.
 ghost use mathlib.Core.Path.{_≡_};
-ghost use Rattle.frames.specs.Counts.{countOf};
+ghost use Rattle.walk.specs.Counts.{countOf};
 ghost use Rattle.walk.specs.Walks.{forth, back, countsOf, sizesOf, endOf};
 ghost use Rattle.trace_c.specs.Flat.{flatEnd};
-use frames::count::count;
+use walk::count::count;
 use walk::walk::walk;
 use walk::walk::walk_back;
 

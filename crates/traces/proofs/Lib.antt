@@ -1,4 +1,4 @@
-mod Opened
+pub mod Opened
 pub mod PlaceLaws
 pub mod AheadLaws
 pub mod RefusalLaws

@@ -1,4 +1,6 @@
+mod FrameLaws
 mod StepLaws
 mod CountLaws
 mod WalkLaws
 pub mod CompleteLaws
+pub mod Examples

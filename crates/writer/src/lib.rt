@@ -1,5 +1,4 @@
-// One record written.
+// One record written by its row of the table of types.
 pub mod emit;
 mod judge;
 mod row;
-mod short;

@@ -4,19 +4,13 @@ use mathlib.Core.Path.{sym, _∙_}
 use borrow.Author.Needs.{needs}
 use Rattle.trace_c.proofs.utf8.aglimtaq_is_utf8.Statement.{statement}
 use Rattle.trace_c.proofs.utf8.aglimtaq_is_utf8.Tie as tie
-use Rattle.trace_c.proofs.utf8.aglimtaq_is_utf8.Reads as reads
-use Rattle.trace_c.proofs.utf8.aglimtaq_is_utf8.Lts as lts
-use Rattle.text.proofs.is_utf8.Reads as is-utf8-reads
 
--- src/utf8.rt:11:8
 is-utf8-requires : tie.Need-is-utf8-requires
 is-utf8-requires c κs = search needs
 
--- src/utf8.rt:7:1
 returns : tie.Need-returns
 returns c = rw (sym (c .before .is-utf8 .ensures) ∙ c .if1 .taken)
 
--- src/utf8.rt:7:1
 returns-2 : tie.Need-returns-2
 returns-2 c = rw (sym (c .before .is-utf8 .ensures) ∙ c .if1 .left)
 

@@ -5,19 +5,13 @@ use borrow.Author.Needs.{needs}
 use Rattle.trace_c.specs.Flat.{flatEnd}
 use Rattle.trace_c.proofs.whole.aglimtaq_walk.Statement.{statement}
 use Rattle.trace_c.proofs.whole.aglimtaq_walk.Tie as tie
-use Rattle.trace_c.proofs.whole.aglimtaq_walk.Reads as reads
-use Rattle.trace_c.proofs.whole.aglimtaq_walk.Lts as lts
-use Rattle.walk.proofs.walk.walk.Reads as walk-reads
 
--- src/whole.rt:26:9
 walk-requires : tie.Need-walk-requires
 walk-requires c κs = search needs
 
--- src/whole.rt:30:9
 cast-t10 : tie.Need-cast-t10
 cast-t10 c = search needs
 
--- src/whole.rt:20:1
 returns : tie.Need-returns
 unfolding flatEnd
 returns c =

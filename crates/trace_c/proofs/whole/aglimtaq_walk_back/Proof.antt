@@ -5,19 +5,13 @@ use borrow.Author.Needs.{needs}
 use Rattle.trace_c.specs.Flat.{flatEnd}
 use Rattle.trace_c.proofs.whole.aglimtaq_walk_back.Statement.{statement}
 use Rattle.trace_c.proofs.whole.aglimtaq_walk_back.Tie as tie
-use Rattle.trace_c.proofs.whole.aglimtaq_walk_back.Reads as reads
-use Rattle.trace_c.proofs.whole.aglimtaq_walk_back.Lts as lts
-use Rattle.walk.proofs.walk.walk_back.Reads as walk-back-reads
 
--- src/whole.rt:40:9
 walk-back-requires : tie.Need-walk-back-requires
 walk-back-requires c κs = search needs
 
--- src/whole.rt:44:9
 cast-t10 : tie.Need-cast-t10
 cast-t10 c = search needs
 
--- src/whole.rt:34:1
 returns : tie.Need-returns
 unfolding flatEnd
 returns c =
