@@ -3,9 +3,10 @@
  *
  * Link with the archive libtrace_c.a. Every function here is proved: it ends, for all bytes and all
  * numbers; it reads the bytes that it is lent and no others; it writes what its last argument points
- * to, all of it at every call, and nothing else, save that aglimtaq_write writes a record into `out`, and
- * a walk writes its three last. It allocates nothing and keeps nothing: what it is lent is the caller's before, during and after the
- * call. A function may run in several threads at once, each with a struct, and an output, of its own.
+ * to, all of it at every call, and nothing else, save that aglimtaq_write writes a record into `out`,
+ * and a walk writes its three last. It allocates nothing and keeps nothing: what it is lent is the
+ * caller's before, during and after the call. A function may run in several threads at once, each with
+ * a struct, and an output, of its own.
  *
  * A pointer to bytes is followed by their number; nobody alters them during the call. No pointer is
  * NULL, also where the number is 0. What is written overlaps nothing else that is lent.
