@@ -10,6 +10,7 @@ use crate::plain::Reading;
 use crate::plain::SHORT;
 use crate::plain::plain;
 use crate::plain::says;
+use console::print;
 use frames::head::heads;
 use frames::read::Content;
 use frames::read::Frame;

@@ -1,5 +1,6 @@
 // The walk over an input: what reading answers from 0 on, until it neither shows nor frames a record.
 use crate::names::names_in;
+use console::print;
 use std::num::wrapping_sub_u64;
 use trace_c::aglimtaq_read_next;
 

@@ -4,6 +4,7 @@ ghost use lib.ListN.{length};
 use crate::answers::answer;
 use crate::input::decode;
 use crate::writes::write_line;
+use console::print;
 
 // Where the line ends that a place is in.
 fn line_end(text: &[u8], from: usize) -> usize

@@ -9,6 +9,7 @@ mod names;
 mod tokens;
 mod writes;
 
+use console::print;
 use libc::STDIN_FILENO;
 use lines::answer_lines;
 

@@ -1,4 +1,5 @@
 // The names of a register list.
+use console::print;
 
 // An entry: its number, and where its name lies in the list.
 fn name(entry: &[u64; 4]) {

@@ -2,6 +2,7 @@
 // `-` for no bytes.
 ghost use Prim.Native.Nat.{_+_, _≤_, _<_};
 ghost use lib.ListN.{length};
+use console::print;
 use libc::STDOUT_FILENO;
 
 // How often the byte at a place stands there in a row.

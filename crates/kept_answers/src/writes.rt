@@ -4,6 +4,7 @@ ghost use lib.ListN.{length};
 use crate::input::decode;
 use crate::input::wide_number;
 use crate::tokens::tokens;
+use console::print;
 use trace_c::aglimtaq_write;
 
 // What aglimtaq_write leaves of the record in an output that has room.

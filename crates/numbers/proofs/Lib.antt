@@ -5,3 +5,4 @@ pub mod TableLaws
 pub mod TextLaws
 pub mod GrammarLaws
 pub mod Rules
+pub mod HighestLaws

@@ -1,7 +1,8 @@
 // Slices of 0 to 34 bytes, copied between two bytes that stay.
 ghost use Prim.Native.Nat.{_≤_};
 ghost use lib.ListN.{length};
-use splice::copy;
+use console::print;
+use numbers::copy::copy;
 
 fn line(s: &[u8])
     requires { ⌜ length (now s) ≤ 34 ⌝ }

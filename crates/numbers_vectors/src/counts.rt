@@ -1,7 +1,8 @@
 // All strings of one, two and three bytes: how many are text, and on how many the verdict differs
 // from the lines of RFC 3629, which stand here once more, as plain comparisons.
 ghost use Prim.Native.Nat.{_+_, _^_, _≤_, _<_};
-use text::is_utf8;
+use console::print;
+use numbers::text::is_utf8;
 
 fn from_to(low: u8, b: u8, high: u8) -> bool {
     low <= b && b <= high

@@ -1,7 +1,8 @@
 // Strings from standard input, each behind a byte that counts its bytes: in hexadecimal, and
 // whether it is text.
+use console::print;
 use libc::STDIN_FILENO;
-use text::is_utf8;
+use numbers::text::is_utf8;
 
 fn line(s: &[u8]) {
     print::bytes(s);

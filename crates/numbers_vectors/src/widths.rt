@@ -2,6 +2,7 @@
 // back. At 1, 2, 4 and 8 these are the trees of halves, written and read.
 ghost use Prim.Native.Nat.{_≤_};
 ghost use lib.ListN.{length};
+use console::print;
 use numbers::le;
 
 fn line(width: u64, value: u64, buffer: &[u8], back: u64) {

@@ -40,12 +40,12 @@ use denote.Triple.Table.{entered, cited}
 use denote.Triple.Walked.{Stays, stay-none-slice, walkOf, goes-none-slice, Walks, ends-at, walked, walk-meets}
 use denote.Exit.{yes}
 use denote.Triple.Clauses.{closing, ensured, lasts}
-use Rattle.raw.specs.declared.record.RawRecord.{RawRecord}
-use Rattle.raw.proofs.record.RawRecord as T
-use Rattle.raw.proofs.record.RawRecord.Laws as T′
-use Rattle.raw.proofs.record.RawRecord.new as new
-use Rattle.raw.proofs.record.RawRecord.new.Symbol as new-def
-use Rattle.raw.proofs.record.RawRecord.new.Met as new-thm
+use Rattle.raw.specs.declared.raw_record.RawRecord.{RawRecord}
+use Rattle.raw.proofs.raw_record.RawRecord as T
+use Rattle.raw.proofs.raw_record.RawRecord.Laws as T′
+use Rattle.raw.proofs.raw_record.RawRecord.new as new
+use Rattle.raw.proofs.raw_record.RawRecord.new.Symbol as new-def
+use Rattle.raw.proofs.raw_record.RawRecord.new.Met as new-thm
 use Rattle.raw.proofs.Held.{B, val}
 use Rattle.raw.proofs.Thin.{over-slice, over-struct, OfSlice, OfStruct, of-slice, of-struct}
 

@@ -1,3 +1,4 @@
 pub mod Above
 pub mod Held
 pub mod Thin
+pub mod HeldIter

@@ -1,3 +1,4 @@
 // A record's bytes by reference: the source's `RawRecord`.
 pub mod plain;
-pub mod record;
+pub mod raw_record;
+pub mod trace_buffer;

@@ -3,12 +3,12 @@
 ghost use mathlib.Core.Path.{_≡_};
 ghost use lib.ListN.{length};
 ghost use Rattle.frames.specs.Frames.{valueOf};
-ghost use Rattle.contents.specs.Reading.{parse};
-ghost use Rattle.kinds.specs.Kinds.{kindIn};
-use crate::record::RawRecord;
-use contents::read::Parsed;
+ghost use Rattle.records.specs.Reading.{parse};
+ghost use Rattle.records.specs.Kinds.{kindIn};
+use crate::raw_record::RawRecord;
 use frames::read::Content;
-use kinds::Kind;
+use records::kind::Kind;
+use records::parse::Parsed;
 
 pub fn kind(s: &[u8]) -> Kind
     ensures { λ r. ⌜ r ≡ kindIn (now (s .entry)) ⌝ }

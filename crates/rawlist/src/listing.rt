@@ -1,12 +1,13 @@
 // The listing of a trace, line by line, as far as the iterator's position moves.
 use crate::record::kind;
 use crate::record::number;
-use contents::bytes::bytes;
+use console::print;
 use frames::read::Part;
 use raw::plain::len;
-use trace_buffer::next_from;
-use traces::position::Position;
-use traces::read::Answer;
+use raw::trace_buffer::next_from;
+use records::bytes::bytes;
+use records::position::Answer;
+use records::position::Position;
 
 // A framed record: where it starts, and what its own bytes tell.
 fn put_record(s: &[u8], part: Part) {

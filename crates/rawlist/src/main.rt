@@ -4,7 +4,7 @@
 mod listing;
 mod record;
 
-use input::is_all;
+use console::input::is_all;
 use libc::STDIN_FILENO;
 use listing::list;
 

@@ -4,13 +4,13 @@
 use crate::types::MAGIC;
 use crate::types::RAW;
 use crate::types::REGISTER_NAME_MAP;
-use contents::write::Verdict;
-use given::Given;
-use given::new_of;
-use splice::copy;
+use numbers::copy::copy;
+use records::judge::Verdict;
+use records::position::Position;
+use records::position::Written;
 use std::num::wrapping_add_usize;
-use traces::position::Position;
-use traces::write::Written;
+use trace_c::given::Given;
+use trace_c::given::new_of;
 
 pub(crate) const REFUSED: usize = 0xffff_ffff_ffff_ffff;
 

@@ -4,10 +4,10 @@ use mathlib.Core.List.{List, [], _∷_}
 use Prim.Native.Nat.{ℕ}
 use Rattle.frames.specs.declared.read.Content.{Content}
 use Rattle.frames.specs.declared.read.Content.the-variants as content
-use Rattle.contents.specs.declared.names.NextName.{NextName}
-use Rattle.contents.specs.declared.names.NextName.the-variants as next
-use Rattle.traces.specs.declared.read.Reading.{Reading}
-use Rattle.flat.specs.Shown.{flatAnswer}
+use Rattle.records.specs.declared.registers.NextName.{NextName}
+use Rattle.records.specs.declared.registers.NextName.the-variants as next
+use Rattle.records.specs.declared.position.Reading.{Reading}
+use Rattle.trace_c.specs.Fields.{flatAnswer}
 use Rattle.walk.specs.declared.walk.End.{End}
 
 -- ---- struct aglimtaq_reading

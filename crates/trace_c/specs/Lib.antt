@@ -1,2 +1,4 @@
+pub mod Fields
+pub mod Given
 pub mod Flat
 pub mod Records

@@ -1,5 +1,7 @@
 // The functions that C and Rust call. include/trace.h says what each argument is and what each number
 // means; a struct there is here the array of its numbers.
+pub mod fields;
+pub mod given;
 mod read;
 mod utf8;
 mod whole;

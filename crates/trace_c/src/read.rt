@@ -1,20 +1,20 @@
 // Reading, by numbers and byte slices.
 ghost use mathlib.Core.Path.{_≡_};
 ghost use Rattle.frames.specs.Frames.{needed, valueOf};
-ghost use Rattle.contents.specs.Reading.{parseAt, nextName};
-ghost use Rattle.traces.specs.Positions.{readNext, readPrevious};
-ghost use Rattle.flat.specs.Shown.{flatParsed};
+ghost use Rattle.records.specs.Reading.{parseAt, nextName};
+ghost use Rattle.records.specs.Positions.{readNext, readPrevious};
+ghost use Rattle.trace_c.specs.Fields.{flatParsed};
 ghost use Rattle.trace_c.specs.Flat.{flatReading, flatContent, contentNumber, flatName, nameNumber};
-use contents::names::Names;
-use contents::names::NextName;
-use flat::shown::of_answer;
-use flat::shown::of_parsed;
+use crate::fields::of_answer;
+use crate::fields::of_parsed;
 use frames::read::Content;
 use frames::read::Frame;
 use frames::read::one_record;
 use frames::read::value;
-use records::parse::parse;
-use traces::position::Position;
+use records::position::Position;
+use records::record::Record;
+use records::registers::Names;
+use records::registers::NextName;
 
 #[no_mangle]
 pub extern "C" fn aglimtaq_read_next(bytes: &[u8], position: usize, reading: &mut [u64; 11])
@@ -40,7 +40,7 @@ pub extern "C" fn aglimtaq_read_previous(bytes: &[u8], position: usize, reading:
 pub extern "C" fn aglimtaq_parse(bytes: &[u8], base: usize, reading: &mut [u64; 11])
     ensures { λ _. ⌜ now (reading .exit) ≡ flatParsed (parseAt base (now (bytes .entry))) ⌝ }
 {
-    *reading = of_parsed(parse(base, bytes));
+    *reading = of_parsed(Record::parse(base, bytes));
 }
 
 #[no_mangle]

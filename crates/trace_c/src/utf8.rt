@@ -2,7 +2,7 @@
 ghost use mathlib.Core.Path.{_≡_};
 ghost use mathlib.Core.Bool.{cond};
 ghost use Rattle.numbers.specs.Text.{utf8};
-use text::is_utf8;
+use numbers::text::is_utf8;
 
 #[no_mangle]
 pub extern "C" fn aglimtaq_is_utf8(bytes: &[u8]) -> u64

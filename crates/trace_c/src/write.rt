@@ -2,10 +2,10 @@
 ghost use mathlib.Core.Path.{_≡_};
 ghost use lib.ListN.{length};
 ghost use Rattle.trace_c.specs.Records.{given, verdictNumber, writtenNumber, writtenNext, writtenBytes};
-use contents::write::Verdict;
-use given::Given;
-use given::new_of;
-use traces::position::Position;
+use crate::given::Given;
+use crate::given::new_of;
+use records::judge::Verdict;
+use records::position::Position;
 
 fn number_of(verdict: Verdict) -> u64
     ensures { λ r. ⌜ r ≡ verdictNumber verdict ⌝ }

@@ -4,10 +4,10 @@ use mathlib.Core.List.{List}
 use Prim.Native.Nat.{ℕ, _+_, _≤_, _<_}
 use native.Mathlib.Omega.{arith}
 use lib.ListN.{length}
-use Rattle.traces.specs.declared.read.Answer.{Answer}
-use Rattle.traces.specs.declared.read.Answer.the-variants as answer
-use Rattle.traces.specs.Positions.{readNext}
-use Rattle.traces.proofs.AheadLaws.{Ahead, next-ahead}
+use Rattle.records.specs.declared.position.Answer.{Answer}
+use Rattle.records.specs.declared.position.Answer.the-variants as answer
+use Rattle.records.specs.Positions.{readNext}
+use Rattle.records.proofs.AheadLaws.{Ahead, next-ahead}
 use Rattle.tracelist.specs.declared.line.Line.{Line}
 use Rattle.tracelist.specs.declared.line.Line.the-variants as line
 use Rattle.tracelist.specs.Listing.{recordLine, lineAs, lineOf}

@@ -5,8 +5,8 @@ ghost use lib.ListN.{length};
 ghost use Rattle.frames.specs.Frames.{entries};
 ghost use Rattle.tracelist.specs.Listing.{recordLine, lineOf};
 use frames::head::kind_in;
-use traces::position::Position;
-use traces::read::Answer;
+use records::position::Answer;
+use records::position::Position;
 
 // A framed record with its kind and 0 or the number of the refusal; or the last line.
 pub enum Line {

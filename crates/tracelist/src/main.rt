@@ -4,7 +4,7 @@ mod line;
 mod listing;
 mod text;
 
-use input::is_all;
+use console::input::is_all;
 use libc::STDIN_FILENO;
 use listing::list;
 

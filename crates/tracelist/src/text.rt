@@ -4,7 +4,7 @@ ghost use mathlib.Core.Path.{_≡_};
 ghost use Prim.Native.Nat.{_+_, _≤_};
 ghost use lib.ListN.{length};
 use crate::line::Line;
-use splice::copy;
+use numbers::copy::copy;
 
 // The longest line, with room to spare.
 pub const LONGEST: usize = 96;

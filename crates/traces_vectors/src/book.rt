@@ -7,7 +7,7 @@ use crate::shown::SHOWN;
 use crate::shown::Shown;
 use crate::slices::part;
 use crate::slices::same;
-use contents::bytes::bytes;
+use records::bytes::bytes;
 
 pub(crate) struct Entry {
     pub(crate) call: Call,

@@ -11,7 +11,8 @@ use crate::slices::at;
 use crate::slices::part;
 use crate::slices::remainder;
 use crate::write::write;
-use contents::bytes::bytes;
+use console::print;
+use records::bytes::bytes;
 
 // To each example its type, its first number, where its slice lies in the pool and how many bytes it has,
 // and the position: Instruction around 254 and 65,530 bytes of content, of which the address has 8; Map;

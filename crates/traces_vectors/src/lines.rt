@@ -1,5 +1,6 @@
 // What the lines of this program are made of.
 use crate::slices::part;
+use console::print;
 
 // Numbers, each behind a space, and what stands before and behind them.
 pub(crate) fn numbers(before: &[u8], n: &[u64], behind: &[u8]) {

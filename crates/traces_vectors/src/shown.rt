@@ -1,8 +1,8 @@
 // What a reading gives, as numbers to compare: those of include/trace.h, by name.
-use flat::shown::of_answer;
 use frames::read::Part;
-use traces::position::Position;
-use traces::read::Reading;
+use records::position::Position;
+use records::position::Reading;
+use trace_c::fields::of_answer;
 
 pub(crate) const SHOWN: u64 = 0;
 

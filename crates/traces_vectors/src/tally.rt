@@ -3,6 +3,7 @@ ghost use Prim.Native.Nat.{_≤_};
 ghost use lib.ListN.{length};
 use crate::lines::numbers;
 use crate::slices::get;
+use console::print;
 use std::num::wrapping_add_u64;
 use std::num::wrapping_add_usize;
 

@@ -1,10 +1,10 @@
 // A call of the codec, and what is said of it.
 use crate::calls::Call;
-use contents::write::Verdict;
-use given::Given;
-use given::new_of;
-use traces::position::Position;
-use traces::write::Written;
+use records::judge::Verdict;
+use records::position::Position;
+use records::position::Written;
+use trace_c::given::Given;
+use trace_c::given::new_of;
 
 // 0, or the number of the refusal, or 256 where the call has no record; and the position.
 pub(crate) struct Said {

@@ -2,11 +2,11 @@
 -- Assumes nothing.
 use base.Logic.{id⊢}
 use denote.Enum.Laws as EL
-use Rattle.kinds.proofs.Kind as S
-use Rattle.kinds.proofs.Kind.Laws as S′
-use Rattle.raw.proofs.record.RawRecord.kind as method
-use Rattle.raw.proofs.record.RawRecord.kind.Symbol as method-def
-use Rattle.raw.proofs.record.RawRecord.kind.Met as method-thm
+use Rattle.records.proofs.kind.Kind as S
+use Rattle.records.proofs.kind.Kind.Laws as S′
+use Rattle.raw.proofs.raw_record.RawRecord.kind as method
+use Rattle.raw.proofs.raw_record.RawRecord.kind.Symbol as method-def
+use Rattle.raw.proofs.raw_record.RawRecord.kind.Met as method-thm
 use Rattle.raw.proofs.Above.{spec}
 use Rattle.raw.proofs.plain.kind.Key.{name}
 use Rattle.raw.proofs.plain.kind as kind
@@ -16,7 +16,7 @@ use Rattle.raw.proofs.plain.kind.Code as code
 pub kind-spec : {M : Type 1} → stated.statement M
 unfolding code.routine
 kind-spec 𝓤 H 𝓜 𝓖 𝓡 =
-    spec (λ _. S.the-row) S′.mir 𝓤 H 𝓜 𝓖 𝓡 code.env name method-def.name method-def.routine code.calls-raw·record·RawRecord·new code.calls-raw·record·RawRecord·kind (code.unfolded 𝓤 H 𝓜 𝓡)
+    spec (λ _. S.the-row) S′.mir 𝓤 H 𝓜 𝓖 𝓡 code.env name method-def.name method-def.routine code.calls-raw·raw-record·RawRecord·new code.calls-raw·raw-record·RawRecord·kind (code.unfolded 𝓤 H 𝓜 𝓡)
     (λ κs d r. method.clauses 𝓤 H (𝓖 .A) (𝓜 .mem) (𝓡 .run) κs (d, tt) .ensures tt r (d, tt))
     (λ κs s r. kind.clauses 𝓤 H (𝓖 .A) (𝓜 .mem) (𝓡 .run) κs (s, tt) .ensures tt r (s, tt))
     (λ κs s r. id⊢ 𝓤 _)

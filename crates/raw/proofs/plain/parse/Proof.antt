@@ -2,11 +2,11 @@
 -- Assumes nothing.
 use base.Logic.{id⊢}
 use denote.Enum.Laws as EL
-use Rattle.contents.proofs.read.Parsed as S
-use Rattle.contents.proofs.read.Parsed.Laws as S′
-use Rattle.raw.proofs.record.RawRecord.parse as method
-use Rattle.raw.proofs.record.RawRecord.parse.Symbol as method-def
-use Rattle.raw.proofs.record.RawRecord.parse.Met as method-thm
+use Rattle.records.proofs.parse.Parsed as S
+use Rattle.records.proofs.parse.Parsed.Laws as S′
+use Rattle.raw.proofs.raw_record.RawRecord.parse as method
+use Rattle.raw.proofs.raw_record.RawRecord.parse.Symbol as method-def
+use Rattle.raw.proofs.raw_record.RawRecord.parse.Met as method-thm
 use Rattle.raw.proofs.Above.{spec}
 use Rattle.raw.proofs.plain.parse.Key.{name}
 use Rattle.raw.proofs.plain.parse as parse
@@ -16,7 +16,7 @@ use Rattle.raw.proofs.plain.parse.Code as code
 pub parse-spec : {M : Type 1} → stated.statement M
 unfolding code.routine
 parse-spec 𝓤 H 𝓜 𝓖 𝓡 =
-    spec (λ _. S.the-row) S′.mir 𝓤 H 𝓜 𝓖 𝓡 code.env name method-def.name method-def.routine code.calls-raw·record·RawRecord·new code.calls-raw·record·RawRecord·parse (code.unfolded 𝓤 H 𝓜 𝓡)
+    spec (λ _. S.the-row) S′.mir 𝓤 H 𝓜 𝓖 𝓡 code.env name method-def.name method-def.routine code.calls-raw·raw-record·RawRecord·new code.calls-raw·raw-record·RawRecord·parse (code.unfolded 𝓤 H 𝓜 𝓡)
     (λ κs d r. method.clauses 𝓤 H (𝓖 .A) (𝓜 .mem) (𝓡 .run) κs (d, tt) .ensures tt r (d, tt))
     (λ κs s r. parse.clauses 𝓤 H (𝓖 .A) (𝓜 .mem) (𝓡 .run) κs (s, tt) .ensures tt r (s, tt))
     (λ κs s r. id⊢ 𝓤 _)

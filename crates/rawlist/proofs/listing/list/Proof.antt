@@ -4,7 +4,7 @@ use mathlib.Core.Path.{sym, subst}
 use Prim.Native.Nat.{_≤_}
 use native.Mathlib.Omega.{arith}
 use lib.ListN.{length}
-use Rattle.traces.specs.declared.read.Reading.{Reading}
+use Rattle.records.specs.declared.position.Reading.{Reading}
 use Rattle.rawlist.proofs.StepLaws.{next-within, left, left-less}
 use Rattle.rawlist.proofs.listing.list.Statement.{statement}
 use Rattle.rawlist.proofs.listing.list.Tie as tie

@@ -2,7 +2,7 @@
 -- Assumes nothing.
 use mathlib.Core.Path.{ap, _∙_}
 use borrow.Author.Needs.{needs}
-use Rattle.flat.specs.Shown.{flatParsed}
+use Rattle.trace_c.specs.Fields.{flatParsed}
 use Rattle.trace_c.proofs.read.aglimtaq_parse.Statement.{statement}
 use Rattle.trace_c.proofs.read.aglimtaq_parse.Tie as tie
 

@@ -2,7 +2,7 @@
 -- Assumes nothing.
 use mathlib.Core.Path.{sym, ap, _∙_}
 use borrow.Author.Needs.{needs}
-use Rattle.traces.specs.declared.write.Written.{Written}
+use Rattle.records.specs.declared.position.Written.{Written}
 use Rattle.trace_c.specs.Records.{given, verdictNumber, writtenNumber, writtenNext, writtenBytes}
 use Rattle.trace_c.proofs.write.aglimtaq_write.Statement.{statement}
 use Rattle.trace_c.proofs.write.aglimtaq_write.Tie as tie

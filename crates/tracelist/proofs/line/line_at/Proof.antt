@@ -3,8 +3,8 @@
 use mathlib.Core.Path.{sym, ap, subst, _∙_}
 use native.Mathlib.Omega.{arith}
 use borrow.Author.Needs.{needs}
-use Rattle.traces.specs.declared.read.Reading.{Reading}
-use Rattle.traces.proofs.AheadLaws.{Ahead, next-ahead}
+use Rattle.records.specs.declared.position.Reading.{Reading}
+use Rattle.records.proofs.AheadLaws.{Ahead, next-ahead}
 use Rattle.tracelist.specs.Listing.{lineAs, lineOf}
 use Rattle.tracelist.proofs.line.line_at.Statement.{statement}
 use Rattle.tracelist.proofs.line.line_at.Tie as tie

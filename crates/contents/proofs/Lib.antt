@@ -1,9 +1,0 @@
-pub mod ContentLaws
-pub mod TypeLaws
-pub mod NameLaws
-pub mod RegisterLaws
-pub mod JudgeLaws
-pub mod Opened
-pub mod PartLaws
-pub mod Examples
-pub mod Vectors

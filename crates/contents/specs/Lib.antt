@@ -1,4 +1,0 @@
-pub mod Contents
-pub mod Views
-pub mod Reading
-pub mod Writing

@@ -1,3 +1,0 @@
-pub mod ReadsLaws
-pub mod DemandLaws
-pub mod Attempts

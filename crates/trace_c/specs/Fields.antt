@@ -1,0 +1,79 @@
+-- What was read, as the numbers of include/trace.h: each struct as the list of its numbers, in order. A field that an answer does not use
+-- is 0. Assumes nothing.
+use mathlib.Core.List.{List, [], _∷_}
+use Prim.Native.Nat.{ℕ}
+use Rattle.frames.specs.declared.read.Part.{Part}
+use Rattle.records.specs.declared.parse.Parsed.{Parsed}
+use Rattle.records.specs.declared.parse.Parsed.the-variants as parsed
+use Rattle.records.specs.declared.record.FileMeta.{FileMeta}
+use Rattle.records.specs.declared.record.FileMeta.the-variants as file
+use Rattle.records.specs.declared.record.Meta.{Meta}
+use Rattle.records.specs.declared.record.Meta.the-variants as meta
+use Rattle.records.specs.declared.record.Record.{Record}
+use Rattle.records.specs.declared.record.Record.the-variants as shown
+use Rattle.records.specs.declared.position.Answer.{Answer}
+use Rattle.records.specs.declared.position.Answer.the-variants as answer
+use Rattle.trace_c.specs.declared.fields.Fields.{Fields}
+
+-- ---- a record: enum aglimtaq_type, its numbers, and the part where its bytes lie
+
+abbrev pub none : Part
+none = record { start = 0; end = 0 }
+
+abbrev pub fields : ℕ → ℕ → ℕ → ℕ → Part → Fields
+fields t a b c p = record { «type_number» = t; a = a; b = b; c = c; part = p }
+
+unfoldable pub fileMetaFields : FileMeta → Fields
+fileMetaFields (file.RegisterNameMap a p) = fields 3 a 0 0 p
+fileMetaFields (file.Unknown a p) = fields 4 a 0 0 p
+
+unfoldable pub metaFields : Meta → Fields
+metaFields (meta.InstructionCount a) = fields 9 a 0 0 none
+metaFields (meta.ThreadId a) = fields 10 a 0 0 none
+metaFields (meta.ProcessId a) = fields 11 a 0 0 none
+metaFields (meta.CallBegin p a) = fields 12 a 0 0 p
+metaFields meta.CallModeledOpsEnd = fields 13 0 0 0 none
+metaFields (meta.CallEnd a) = fields 14 a 0 0 none
+metaFields meta.OperandUncertain = fields 15 0 0 0 none
+metaFields (meta.AddressDependencyEdge a) = fields 16 a 0 0 none
+metaFields (meta.RegisterDependencyEdge a) = fields 17 (a .0) 0 0 none
+metaFields (meta.MemoryAllocated a b) = fields 18 a b 0 none
+metaFields (meta.MemoryFreed a b) = fields 19 a b 0 none
+metaFields (meta.MemoryReallocated a b c) = fields 20 a b c none
+metaFields (meta.Unknown a p) = fields 21 a 0 0 p
+
+unfoldable pub fieldsOf : Record → Fields
+fieldsOf shown.Magic = fields 1 0 0 0 none
+fieldsOf (shown.Arch p) = fields 2 0 0 0 p
+fieldsOf (shown.FileMeta m) = fileMetaFields m
+fieldsOf (shown.Map a p) = fields 5 a 0 0 p
+fieldsOf (shown.Unmap a b) = fields 6 a b 0 none
+fieldsOf (shown.Instruction a p) = fields 7 a 0 0 p
+fieldsOf (shown.Pc a) = fields 8 a 0 0 none
+fieldsOf (shown.Meta m) = metaFields m
+fieldsOf (shown.Interrupt a b) = fields 22 a b 0 none
+fieldsOf (shown.RegRead a p) = fields 23 (a .0) 0 0 p
+fieldsOf (shown.RegWrite a p) = fields 24 (a .0) 0 0 p
+fieldsOf (shown.RegWriteNative a p) = fields 25 (a .0) 0 0 p
+fieldsOf (shown.MemRead a p) = fields 26 a 0 0 p
+fieldsOf (shown.MemWrite a p) = fields 27 a 0 0 p
+
+-- ---- struct aglimtaq_reading
+
+abbrev nothing : List ℕ
+nothing = 0 ∷ 0 ∷ 0 ∷ 0 ∷ 0 ∷ 0 ∷ []
+
+unfoldable pub numbersOf : Fields → List ℕ
+numbersOf f = f .«type_number» ∷ f .a ∷ f .b ∷ f .c ∷ f .part .start ∷ f .part .end ∷ []
+
+-- position, enum aglimtaq_answer, number, start and end, and the record
+unfoldable pub flatAnswer : ℕ → Answer → List ℕ
+flatAnswer p (answer.Shown r q) = p ∷ 0 ∷ 0 ∷ q .start ∷ q .end ∷ numbersOf (fieldsOf r)
+flatAnswer p (answer.RefusedAt n q) = p ∷ 1 ∷ n ∷ q .start ∷ q .end ∷ nothing
+flatAnswer p (answer.Refused n) = p ∷ 2 ∷ n ∷ 0 ∷ 0 ∷ nothing
+flatAnswer p answer.Finished = p ∷ 3 ∷ 0 ∷ 0 ∷ 0 ∷ nothing
+flatAnswer p (answer.Unfinished n) = p ∷ 4 ∷ n ∷ 0 ∷ 0 ∷ nothing
+
+unfoldable pub flatParsed : Parsed → List ℕ
+flatParsed (parsed.Shown r) = 0 ∷ 0 ∷ 0 ∷ 0 ∷ 0 ∷ numbersOf (fieldsOf r)
+flatParsed (parsed.Refused n) = 0 ∷ 2 ∷ n ∷ 0 ∷ 0 ∷ nothing

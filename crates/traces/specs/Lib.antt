@@ -1,2 +1,0 @@
-pub mod Positions
-pub mod Traces
