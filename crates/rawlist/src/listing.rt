@@ -44,7 +44,7 @@ pub fn list(s: &[u8]) {
     let mut at = 0;
     let mut more = true;
     while more {
-        let reading = next_from(Position { at }, s);
+        let reading = next_from(Position::at(at), s);
         let answer = reading.answer;
         put_line(s, at, answer);
         let position = reading.position;

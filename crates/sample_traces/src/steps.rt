@@ -26,7 +26,7 @@ fn end_of(written: Written) -> usize {
 // A record, written.
 fn write(out: &mut [u8], at: usize, step: [u64; 5], bytes: &[u8]) -> usize {
     match new_of(step[0], step[1], step[2], step[3]) {
-        Given::Record(new) => end_of(Position { at }.write(out, new, bytes)),
+        Given::Record(new) => end_of(Position::at(at).write(out, new, bytes)),
         Given::Nothing => REFUSED,
     }
 }

@@ -2,7 +2,7 @@
 ghost use mathlib.Core.Path.{_≡_};
 ghost use Rattle.frames.specs.Frames.{needed, valueOf};
 ghost use Rattle.records.specs.Reading.{parseAt, nextName};
-ghost use Rattle.records.specs.Positions.{readNext, readPrevious};
+ghost use Rattle.records.specs.Positions.{here, readNext, readPrevious};
 ghost use Rattle.trace_c.specs.Fields.{flatParsed};
 ghost use Rattle.trace_c.specs.Flat.{flatReading, flatContent, contentNumber, flatName, nameNumber};
 use crate::fields::of_answer;
@@ -18,9 +18,9 @@ use records::registers::NextName;
 
 #[no_mangle]
 pub extern "C" fn aglimtaq_read_next(bytes: &[u8], position: usize, reading: &mut [u64; 11])
-    ensures { λ _. ⌜ now (reading .exit) ≡ flatReading (readNext (now (bytes .entry)) (record { at = position })) ⌝ }
+    ensures { λ _. ⌜ now (reading .exit) ≡ flatReading (readNext (now (bytes .entry)) (here position)) ⌝ }
 {
-    let next = Position { at: position }.read_next(bytes);
+    let next = Position::at(position).read_next(bytes);
     let place = next.position;
     let answer = next.answer;
     *reading = of_answer(place.at, answer);
@@ -28,9 +28,9 @@ pub extern "C" fn aglimtaq_read_next(bytes: &[u8], position: usize, reading: &mu
 
 #[no_mangle]
 pub extern "C" fn aglimtaq_read_previous(bytes: &[u8], position: usize, reading: &mut [u64; 11])
-    ensures { λ _. ⌜ now (reading .exit) ≡ flatReading (readPrevious (now (bytes .entry)) (record { at = position })) ⌝ }
+    ensures { λ _. ⌜ now (reading .exit) ≡ flatReading (readPrevious (now (bytes .entry)) (here position)) ⌝ }
 {
-    let previous = Position { at: position }.read_previous(bytes);
+    let previous = Position::at(position).read_previous(bytes);
     let start = previous.position;
     let answer = previous.answer;
     *reading = of_answer(start.at, answer);

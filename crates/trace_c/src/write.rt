@@ -30,7 +30,7 @@ pub extern "C" fn aglimtaq_write(
 {
     match new_of(record[0], record[1], record[2], record[3]) {
         Given::Record(new) => {
-            let written = Position { at: position }.write(out, new, bytes);
+            let written = Position::at(position).write(out, new, bytes);
             let place = written.position;
             let verdict = written.verdict;
             *next = place.at as u64;

@@ -6,7 +6,7 @@ use native.Mathlib.Omega.{arith}
 use lib.ListN.{length}
 use Rattle.records.specs.declared.position.Answer.{Answer}
 use Rattle.records.specs.declared.position.Answer.the-variants as answer
-use Rattle.records.specs.Positions.{readNext}
+use Rattle.records.specs.Positions.{here, readNext}
 use Rattle.records.proofs.AheadLaws.{Ahead, next-ahead}
 use Rattle.tracelist.specs.declared.line.Line.{Line}
 use Rattle.tracelist.specs.declared.line.Line.the-variants as line
@@ -27,4 +27,4 @@ runs-as s at (answer.Unfinished n) h = tt
 
 pub line-runs : (s : List ℕ) (at : ℕ) → Runs s at (lineOf s at)
 unfolding lineOf
-line-runs s at = runs-as s at (readNext s (record { at = at }) .answer) (next-ahead s (record { at = at }))
+line-runs s at = runs-as s at (readNext s (here at) .answer) (next-ahead s (here at))

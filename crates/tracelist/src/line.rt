@@ -40,7 +40,7 @@ pub fn line_at(heads: &[u16; 256], s: &[u8], at: usize) -> Line
     requires { ⌜ now heads ≡ entries ⌝ }
     ensures { λ r. ⌜ r ≡ lineOf (now (s .entry)) at ⌝ }
 {
-    let reading = Position { at }.read_next_in(heads, s);
+    let reading = Position::at(at).read_next_in(heads, s);
     let answer = reading.answer;
     match answer {
         Answer::Shown(_, part) => record_line(heads, s, part.start, part.end, 0),

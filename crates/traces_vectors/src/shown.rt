@@ -47,9 +47,9 @@ fn shown_by(reading: Reading) -> Shown {
 }
 
 pub(crate) fn next(s: &[u8], at: usize) -> Shown {
-    shown_by(Position { at }.read_next(s))
+    shown_by(Position::at(at).read_next(s))
 }
 
 pub(crate) fn previous(s: &[u8], at: usize) -> Shown {
-    shown_by(Position { at }.read_previous(s))
+    shown_by(Position::at(at).read_previous(s))
 }

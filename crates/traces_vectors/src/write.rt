@@ -30,7 +30,7 @@ fn said_of(written: Written) -> Said {
 
 pub(crate) fn write(out: &mut [u8], at: usize, call: Call, slice: &[u8]) -> Said {
     match new_of(call.t, call.a, call.b, call.c) {
-        Given::Record(new) => said_of(Position { at }.write(out, new, slice)),
+        Given::Record(new) => said_of(Position::at(at).write(out, new, slice)),
         Given::Nothing => Said { number: 256, at },
     }
 }

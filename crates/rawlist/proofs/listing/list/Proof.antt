@@ -1,10 +1,11 @@
 -- `rawlist::listing::list` is safe and ends: where the position moves, less is left.
 -- Assumes nothing.
-use mathlib.Core.Path.{sym, subst}
+use mathlib.Core.Path.{sym, ap, subst, _∙_}
 use Prim.Native.Nat.{_≤_}
 use native.Mathlib.Omega.{arith}
 use lib.ListN.{length}
 use Rattle.records.specs.declared.position.Reading.{Reading}
+use Rattle.records.specs.Positions.{here, readNext}
 use Rattle.rawlist.proofs.StepLaws.{next-within, left, left-less}
 use Rattle.rawlist.proofs.listing.list.Statement.{statement}
 use Rattle.rawlist.proofs.listing.list.Tie as tie
@@ -18,6 +19,9 @@ abbrev μ-loop : tie.MeasureT-loop
 loop-holds : tie.Need-loop-holds Inv-loop μ-loop
 loop-holds c = omega arith
 
+at-requires : tie.Need-at-requires Inv-loop μ-loop
+at-requires c κs = tt
+
 next-from-requires : tie.Need-next-from-requires Inv-loop μ-loop
 next-from-requires c κs = tt
 
@@ -25,14 +29,14 @@ put-line-requires : tie.Need-put-line-requires Inv-loop μ-loop
 put-line-requires c κs = tt
 
 -- the position that the call leaves lies within the trace
-inside : (c : tie.After-position Inv-loop μ-loop) → c .before .before .next-from .result .position .at ≤ length (c .before .before .before .before .before .before .args .s .now)
+inside : (c : tie.After-position Inv-loop μ-loop) → c .before .before .next-from .result .position .at ≤ length (c .before .before .before .before .before .before .before .args .s .now)
 inside c =
-    let s = c .before .before .before .before .before .before .args .s .now in
-    let l = c .before .before .before .before .loop in
-    subst (λ (r : Reading). r .position .at ≤ length s) (sym (c .before .before .next-from .ensures)) (next-within s (record { at = l .at }) (l .inv))
+    let s = c .before .before .before .before .before .before .before .args .s .now in
+    let l = c .before .before .before .before .before .loop in
+    subst (λ (r : Reading). r .position .at ≤ length s) (sym (c .before .before .next-from .ensures ∙ ap (readNext s) (c .before .before .before .at .ensures))) (next-within s (here (l .at)) (l .inv))
 
 loop-less : tie.Need-loop-less Inv-loop μ-loop
-loop-less c = rw (c .before .before .before .loop-test .taken) (left-less _ _ _ (inside c))
+loop-less c = rw (c .before .before .before .before .loop-test .taken) (left-less _ _ _ (inside c))
 
 loop-again : tie.Need-loop-again Inv-loop μ-loop
 loop-again c = inside c
@@ -47,6 +51,7 @@ list-spec =
     Inv-loop
     μ-loop
     loop-holds
+    at-requires
     next-from-requires
     put-line-requires
     loop-less

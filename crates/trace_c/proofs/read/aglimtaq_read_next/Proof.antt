@@ -2,9 +2,13 @@
 -- Assumes nothing.
 use mathlib.Core.Path.{ap, _∙_}
 use borrow.Author.Needs.{needs}
+use Rattle.records.specs.Positions.{readNext}
 use Rattle.trace_c.specs.Flat.{flatReading}
 use Rattle.trace_c.proofs.read.aglimtaq_read_next.Statement.{statement}
 use Rattle.trace_c.proofs.read.aglimtaq_read_next.Tie as tie
+
+at-requires : tie.Need-at-requires
+at-requires c κs = search needs
 
 read-next-requires : tie.Need-read-next-requires
 read-next-requires c κs = search needs
@@ -14,7 +18,7 @@ of-answer-requires c κs = search needs
 
 returns : tie.Need-returns
 unfolding flatReading
-returns c = c .of-answer .ensures ∙ ap flatReading (c .before .before .read-next .ensures)
+returns c = c .of-answer .ensures ∙ ap flatReading (c .before .before .read-next .ensures ∙ ap (readNext _) (c .before .before .before .at .ensures))
 
 pub aglimtaq-read-next-spec : {M : Type 1} → statement M
-aglimtaq-read-next-spec = tie.close (tie.spec read-next-requires of-answer-requires returns)
+aglimtaq-read-next-spec = tie.close (tie.spec at-requires read-next-requires of-answer-requires returns)
