@@ -13,7 +13,13 @@ use Rattle.records.specs.declared.record.Record.{Record}
 use Rattle.records.specs.declared.record.Record.the-variants as shown
 use Rattle.records.specs.declared.position.Answer.{Answer}
 use Rattle.records.specs.declared.position.Answer.the-variants as answer
+use Rattle.records.specs.Contents.RecordType.{magic, arch, registerNameMap, unknownFileMeta, map, unmap, instruction, pc}
+use Rattle.records.specs.Contents.RecordType.{instructionCount, threadId, processId, callBegin, callModeledOpsEnd, callEnd}
+use Rattle.records.specs.Contents.RecordType.{operandUncertain, addressDependencyEdge, registerDependencyEdge, memoryAllocated}
+use Rattle.records.specs.Contents.RecordType.{memoryFreed, memoryReallocated, unknownMeta, interrupt, regRead, regWrite}
+use Rattle.records.specs.Contents.RecordType.{regWriteNative, memRead, memWrite}
 use Rattle.trace_c.specs.declared.fields.Fields.{Fields}
+use Rattle.trace_c.specs.Types.{number}
 
 -- ---- a record: enum aglimtaq_type, its numbers, and the part where its bytes lie
 
@@ -24,39 +30,39 @@ abbrev pub fields : ℕ → ℕ → ℕ → ℕ → Part → Fields
 fields t a b c p = record { «type_number» = t; a = a; b = b; c = c; part = p }
 
 unfoldable pub fileMetaFields : FileMeta → Fields
-fileMetaFields (file.RegisterNameMap a p) = fields 3 a 0 0 p
-fileMetaFields (file.Unknown a p) = fields 4 a 0 0 p
+fileMetaFields (file.RegisterNameMap a p) = fields (number registerNameMap) a 0 0 p
+fileMetaFields (file.Unknown a p) = fields (number unknownFileMeta) a 0 0 p
 
 unfoldable pub metaFields : Meta → Fields
-metaFields (meta.InstructionCount a) = fields 9 a 0 0 none
-metaFields (meta.ThreadId a) = fields 10 a 0 0 none
-metaFields (meta.ProcessId a) = fields 11 a 0 0 none
-metaFields (meta.CallBegin p a) = fields 12 a 0 0 p
-metaFields meta.CallModeledOpsEnd = fields 13 0 0 0 none
-metaFields (meta.CallEnd a) = fields 14 a 0 0 none
-metaFields meta.OperandUncertain = fields 15 0 0 0 none
-metaFields (meta.AddressDependencyEdge a) = fields 16 a 0 0 none
-metaFields (meta.RegisterDependencyEdge a) = fields 17 (a .0) 0 0 none
-metaFields (meta.MemoryAllocated a b) = fields 18 a b 0 none
-metaFields (meta.MemoryFreed a b) = fields 19 a b 0 none
-metaFields (meta.MemoryReallocated a b c) = fields 20 a b c none
-metaFields (meta.Unknown a p) = fields 21 a 0 0 p
+metaFields (meta.InstructionCount a) = fields (number instructionCount) a 0 0 none
+metaFields (meta.ThreadId a) = fields (number threadId) a 0 0 none
+metaFields (meta.ProcessId a) = fields (number processId) a 0 0 none
+metaFields (meta.CallBegin p a) = fields (number callBegin) a 0 0 p
+metaFields meta.CallModeledOpsEnd = fields (number callModeledOpsEnd) 0 0 0 none
+metaFields (meta.CallEnd a) = fields (number callEnd) a 0 0 none
+metaFields meta.OperandUncertain = fields (number operandUncertain) 0 0 0 none
+metaFields (meta.AddressDependencyEdge a) = fields (number addressDependencyEdge) a 0 0 none
+metaFields (meta.RegisterDependencyEdge a) = fields (number registerDependencyEdge) (a .0) 0 0 none
+metaFields (meta.MemoryAllocated a b) = fields (number memoryAllocated) a b 0 none
+metaFields (meta.MemoryFreed a b) = fields (number memoryFreed) a b 0 none
+metaFields (meta.MemoryReallocated a b c) = fields (number memoryReallocated) a b c none
+metaFields (meta.Unknown a p) = fields (number unknownMeta) a 0 0 p
 
 unfoldable pub fieldsOf : Record → Fields
-fieldsOf shown.Magic = fields 1 0 0 0 none
-fieldsOf (shown.Arch p) = fields 2 0 0 0 p
+fieldsOf shown.Magic = fields (number magic) 0 0 0 none
+fieldsOf (shown.Arch p) = fields (number arch) 0 0 0 p
 fieldsOf (shown.FileMeta m) = fileMetaFields m
-fieldsOf (shown.Map a p) = fields 5 a 0 0 p
-fieldsOf (shown.Unmap a b) = fields 6 a b 0 none
-fieldsOf (shown.Instruction a p) = fields 7 a 0 0 p
-fieldsOf (shown.Pc a) = fields 8 a 0 0 none
+fieldsOf (shown.Map a p) = fields (number map) a 0 0 p
+fieldsOf (shown.Unmap a b) = fields (number unmap) a b 0 none
+fieldsOf (shown.Instruction a p) = fields (number instruction) a 0 0 p
+fieldsOf (shown.Pc a) = fields (number pc) a 0 0 none
 fieldsOf (shown.Meta m) = metaFields m
-fieldsOf (shown.Interrupt a b) = fields 22 a b 0 none
-fieldsOf (shown.RegRead a p) = fields 23 (a .0) 0 0 p
-fieldsOf (shown.RegWrite a p) = fields 24 (a .0) 0 0 p
-fieldsOf (shown.RegWriteNative a p) = fields 25 (a .0) 0 0 p
-fieldsOf (shown.MemRead a p) = fields 26 a 0 0 p
-fieldsOf (shown.MemWrite a p) = fields 27 a 0 0 p
+fieldsOf (shown.Interrupt a b) = fields (number interrupt) a b 0 none
+fieldsOf (shown.RegRead a p) = fields (number regRead) (a .0) 0 0 p
+fieldsOf (shown.RegWrite a p) = fields (number regWrite) (a .0) 0 0 p
+fieldsOf (shown.RegWriteNative a p) = fields (number regWriteNative) (a .0) 0 0 p
+fieldsOf (shown.MemRead a p) = fields (number memRead) a 0 0 p
+fieldsOf (shown.MemWrite a p) = fields (number memWrite) a 0 0 p
 
 -- ---- struct aglimtaq_reading
 

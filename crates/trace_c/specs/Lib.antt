@@ -1,3 +1,4 @@
+pub mod Types
 pub mod Fields
 pub mod Given
 pub mod Flat

@@ -1,6 +1,7 @@
 // What was read, as the numbers of include/trace.h.
 ghost use mathlib.Core.Path.{_≡_};
 ghost use Rattle.trace_c.specs.Fields.{fields, none, fileMetaFields, metaFields, fieldsOf, flatAnswer, flatParsed};
+use crate::types;
 use frames::read::Part;
 use records::parse::Parsed;
 use records::position::Answer;
@@ -49,8 +50,12 @@ fn of_file_meta(file_meta: FileMeta) -> Fields
         FileMeta::RegisterNameMap {
             num_records,
             records,
-        } => with_bytes(3, num_records as u64, records),
-        FileMeta::Unknown { tag, contents } => with_bytes(4, tag as u64, contents),
+        } => with_bytes(types::REGISTER_NAME_MAP, num_records as u64, records),
+        FileMeta::Unknown { tag, contents } => with_bytes(
+            types::UNKNOWN_FILE_META,
+            tag as u64,
+            contents,
+        ),
     }
 }
 
@@ -58,28 +63,53 @@ fn of_meta(meta: Meta) -> Fields
     ensures { λ r. ⌜ r ≡ metaFields meta ⌝ }
 {
     match meta {
-        Meta::InstructionCount { tick } => numbers(9, tick, 0, 0),
-        Meta::ThreadId { threadid } => numbers(10, threadid as u64, 0, 0),
-        Meta::ProcessId { processid } => numbers(11, processid, 0, 0),
+        Meta::InstructionCount { tick } => numbers(types::INSTRUCTION_COUNT, tick, 0, 0),
+        Meta::ThreadId { threadid } => numbers(types::THREAD_ID, threadid as u64, 0, 0),
+        Meta::ProcessId { processid } => numbers(types::PROCESS_ID, processid, 0, 0),
         Meta::CallBegin {
             function_name,
             address,
-        } => with_bytes(12, address, function_name),
-        Meta::CallModeledOpsEnd => numbers(13, 0, 0, 0),
+        } => with_bytes(types::CALL_BEGIN, address, function_name),
+        Meta::CallModeledOpsEnd => numbers(types::CALL_MODELED_OPS_END, 0, 0, 0),
         Meta::CallEnd {
             call_instruction_addr,
-        } => numbers(14, call_instruction_addr, 0, 0),
-        Meta::OperandUncertain => numbers(15, 0, 0, 0),
-        Meta::AddressDependencyEdge { address } => numbers(16, address, 0, 0),
-        Meta::RegisterDependencyEdge { register } => numbers(17, register.0 as u64, 0, 0),
-        Meta::MemoryAllocated { address, size } => numbers(18, address, size as u64, 0),
-        Meta::MemoryFreed { address, size } => numbers(19, address, size as u64, 0),
+        } => numbers(types::CALL_END, call_instruction_addr, 0, 0),
+        Meta::OperandUncertain => numbers(types::OPERAND_UNCERTAIN, 0, 0, 0),
+        Meta::AddressDependencyEdge { address } => numbers(
+            types::ADDRESS_DEPENDENCY_EDGE,
+            address,
+            0,
+            0,
+        ),
+        Meta::RegisterDependencyEdge { register } => numbers(
+            types::REGISTER_DEPENDENCY_EDGE,
+            register.0 as u64,
+            0,
+            0,
+        ),
+        Meta::MemoryAllocated { address, size } => numbers(
+            types::MEMORY_ALLOCATED,
+            address,
+            size as u64,
+            0,
+        ),
+        Meta::MemoryFreed { address, size } => numbers(
+            types::MEMORY_FREED,
+            address,
+            size as u64,
+            0,
+        ),
         Meta::MemoryReallocated {
             new_address,
             old_address,
             size,
-        } => numbers(20, new_address, old_address, size as u64),
-        Meta::Unknown { tag, contents } => with_bytes(21, tag as u64, contents),
+        } => numbers(
+            types::MEMORY_REALLOCATED,
+            new_address,
+            old_address,
+            size as u64,
+        ),
+        Meta::Unknown { tag, contents } => with_bytes(types::UNKNOWN_META, tag as u64, contents),
     }
 }
 
@@ -87,20 +117,32 @@ fn of_record(record: Record) -> Fields
     ensures { λ r. ⌜ r ≡ fieldsOf «record» ⌝ }
 {
     match record {
-        Record::Magic => numbers(1, 0, 0, 0),
-        Record::Arch { contents } => with_bytes(2, 0, contents),
+        Record::Magic => numbers(types::MAGIC, 0, 0, 0),
+        Record::Arch { contents } => with_bytes(types::ARCH, 0, contents),
         Record::FileMeta(file_meta) => of_file_meta(file_meta),
-        Record::Map { base, contents } => with_bytes(5, base, contents),
-        Record::Unmap { base, length } => numbers(6, base, length, 0),
-        Record::Instruction { pc, insbytes } => with_bytes(7, pc, insbytes),
-        Record::Pc { pc } => numbers(8, pc, 0, 0),
+        Record::Map { base, contents } => with_bytes(types::MAP, base, contents),
+        Record::Unmap { base, length } => numbers(types::UNMAP, base, length, 0),
+        Record::Instruction { pc, insbytes } => with_bytes(types::INSTRUCTION, pc, insbytes),
+        Record::Pc { pc } => numbers(types::PC, pc, 0, 0),
         Record::Meta(meta) => of_meta(meta),
-        Record::Interrupt { num, tick } => numbers(22, num as u64, tick, 0),
-        Record::RegRead { regnum, contents } => with_bytes(23, regnum.0 as u64, contents),
-        Record::RegWrite { regnum, contents } => with_bytes(24, regnum.0 as u64, contents),
-        Record::RegWriteNative { regnum, contents } => with_bytes(25, regnum.0 as u64, contents),
-        Record::MemRead { address, contents } => with_bytes(26, address, contents),
-        Record::MemWrite { address, contents } => with_bytes(27, address, contents),
+        Record::Interrupt { num, tick } => numbers(types::INTERRUPT, num as u64, tick, 0),
+        Record::RegRead { regnum, contents } => with_bytes(
+            types::REG_READ,
+            regnum.0 as u64,
+            contents,
+        ),
+        Record::RegWrite { regnum, contents } => with_bytes(
+            types::REG_WRITE,
+            regnum.0 as u64,
+            contents,
+        ),
+        Record::RegWriteNative { regnum, contents } => with_bytes(
+            types::REG_WRITE_NATIVE,
+            regnum.0 as u64,
+            contents,
+        ),
+        Record::MemRead { address, contents } => with_bytes(types::MEM_READ, address, contents),
+        Record::MemWrite { address, contents } => with_bytes(types::MEM_WRITE, address, contents),
     }
 }
 

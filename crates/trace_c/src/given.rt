@@ -2,6 +2,7 @@
 ghost use mathlib.Core.Path.{_≡_};
 ghost use Prim.Native.Nat.{_%_, _^_};
 ghost use Rattle.trace_c.specs.Given.{fitting, builtMeta, built, newOf};
+use crate::types;
 use records::new_record::NewFileMeta;
 use records::new_record::NewMeta;
 use records::new_record::NewRecord;
@@ -19,18 +20,18 @@ fn fits(t: u64, a: u64, b: u64, c: u64) -> bool
     ensures { λ r. ⌜ r ≡ fitting t a b c ⌝ }
 {
     match t {
-        3 => a < 256,
-        4 => a < 256,
-        21 => a < 256,
-        25 => a < 65536,
-        10 => a < 4294967296,
-        17 => a < 4294967296,
-        22 => a < 4294967296,
-        23 => a < 4294967296,
-        24 => a < 4294967296,
-        18 => b < 4294967296,
-        19 => b < 4294967296,
-        20 => c < 4294967296,
+        types::REGISTER_NAME_MAP => a < 256,
+        types::UNKNOWN_FILE_META => a < 256,
+        types::UNKNOWN_META => a < 256,
+        types::REG_WRITE_NATIVE => a < 65536,
+        types::THREAD_ID => a < 4294967296,
+        types::REGISTER_DEPENDENCY_EDGE => a < 4294967296,
+        types::INTERRUPT => a < 4294967296,
+        types::REG_READ => a < 4294967296,
+        types::REG_WRITE => a < 4294967296,
+        types::MEMORY_ALLOCATED => b < 4294967296,
+        types::MEMORY_FREED => b < 4294967296,
+        types::MEMORY_REALLOCATED => c < 4294967296,
         _ => true,
     }
 }
@@ -59,33 +60,39 @@ fn build_meta(t: u64, a: u64, b: u64, c: u64) -> Given
     ensures { λ r. ⌜ r ≡ builtMeta t a b c ⌝ }
 {
     match t {
-        9 => Given::Record(NewRecord::Meta(NewMeta::InstructionCount { tick: a })),
-        10 => Given::Record(NewRecord::Meta(NewMeta::ThreadId { threadid: low32(a) })),
-        11 => Given::Record(NewRecord::Meta(NewMeta::ProcessId { processid: a })),
-        12 => Given::Record(NewRecord::Meta(NewMeta::CallBegin { address: a })),
-        13 => Given::Record(NewRecord::Meta(NewMeta::CallModeledOpsEnd)),
-        14 => Given::Record(NewRecord::Meta(NewMeta::CallEnd {
+        types::INSTRUCTION_COUNT => Given::Record(NewRecord::Meta(NewMeta::InstructionCount {
+            tick: a,
+        })),
+        types::THREAD_ID => Given::Record(NewRecord::Meta(NewMeta::ThreadId {
+            threadid: low32(a),
+        })),
+        types::PROCESS_ID => Given::Record(NewRecord::Meta(NewMeta::ProcessId { processid: a })),
+        types::CALL_BEGIN => Given::Record(NewRecord::Meta(NewMeta::CallBegin { address: a })),
+        types::CALL_MODELED_OPS_END => Given::Record(NewRecord::Meta(NewMeta::CallModeledOpsEnd)),
+        types::CALL_END => Given::Record(NewRecord::Meta(NewMeta::CallEnd {
             call_instruction_addr: a,
         })),
-        15 => Given::Record(NewRecord::Meta(NewMeta::OperandUncertain)),
-        16 => Given::Record(NewRecord::Meta(NewMeta::AddressDependencyEdge { address: a })),
-        17 => Given::Record(NewRecord::Meta(NewMeta::RegisterDependencyEdge {
-            register: Register(low32(a)),
-        })),
-        18 => Given::Record(NewRecord::Meta(NewMeta::MemoryAllocated {
+        types::OPERAND_UNCERTAIN => Given::Record(NewRecord::Meta(NewMeta::OperandUncertain)),
+        types::ADDRESS_DEPENDENCY_EDGE =>
+            Given::Record(NewRecord::Meta(NewMeta::AddressDependencyEdge { address: a })),
+        types::REGISTER_DEPENDENCY_EDGE =>
+            Given::Record(NewRecord::Meta(NewMeta::RegisterDependencyEdge {
+                register: Register(low32(a)),
+            })),
+        types::MEMORY_ALLOCATED => Given::Record(NewRecord::Meta(NewMeta::MemoryAllocated {
             address: a,
             size: low32(b),
         })),
-        19 => Given::Record(NewRecord::Meta(NewMeta::MemoryFreed {
+        types::MEMORY_FREED => Given::Record(NewRecord::Meta(NewMeta::MemoryFreed {
             address: a,
             size: low32(b),
         })),
-        20 => Given::Record(NewRecord::Meta(NewMeta::MemoryReallocated {
+        types::MEMORY_REALLOCATED => Given::Record(NewRecord::Meta(NewMeta::MemoryReallocated {
             new_address: a,
             old_address: b,
             size: low32(c),
         })),
-        21 => Given::Record(NewRecord::Meta(NewMeta::Unknown { tag: low8(a) })),
+        types::UNKNOWN_META => Given::Record(NewRecord::Meta(NewMeta::Unknown { tag: low8(a) })),
         _ => Given::Nothing,
     }
 }
@@ -95,30 +102,32 @@ fn build(t: u64, a: u64, b: u64, c: u64) -> Given
     ensures { λ r. ⌜ r ≡ built t a b c ⌝ }
 {
     match t {
-        1 => Given::Record(NewRecord::Magic),
-        3 => Given::Record(NewRecord::FileMeta(NewFileMeta::RegisterNameMap {
+        types::MAGIC => Given::Record(NewRecord::Magic),
+        types::REGISTER_NAME_MAP => Given::Record(NewRecord::FileMeta(NewFileMeta::RegisterNameMap {
             num_records: low8(a),
         })),
-        4 => Given::Record(NewRecord::FileMeta(NewFileMeta::Unknown { tag: low8(a) })),
-        5 => Given::Record(NewRecord::Map { base: a }),
-        6 => Given::Record(NewRecord::Unmap { base: a, length: b }),
-        7 => Given::Record(NewRecord::Instruction { pc: a }),
-        8 => Given::Record(NewRecord::Pc { pc: a }),
-        22 => Given::Record(NewRecord::Interrupt {
+        types::UNKNOWN_FILE_META => Given::Record(NewRecord::FileMeta(NewFileMeta::Unknown {
+            tag: low8(a),
+        })),
+        types::MAP => Given::Record(NewRecord::Map { base: a }),
+        types::UNMAP => Given::Record(NewRecord::Unmap { base: a, length: b }),
+        types::INSTRUCTION => Given::Record(NewRecord::Instruction { pc: a }),
+        types::PC => Given::Record(NewRecord::Pc { pc: a }),
+        types::INTERRUPT => Given::Record(NewRecord::Interrupt {
             num: low32(a),
             tick: b,
         }),
-        23 => Given::Record(NewRecord::RegRead {
+        types::REG_READ => Given::Record(NewRecord::RegRead {
             regnum: Register(low32(a)),
         }),
-        24 => Given::Record(NewRecord::RegWrite {
+        types::REG_WRITE => Given::Record(NewRecord::RegWrite {
             regnum: Register(low32(a)),
         }),
-        25 => Given::Record(NewRecord::RegWriteNative {
+        types::REG_WRITE_NATIVE => Given::Record(NewRecord::RegWriteNative {
             regnum: NativeRegister(low16(a)),
         }),
-        26 => Given::Record(NewRecord::MemRead { address: a }),
-        27 => Given::Record(NewRecord::MemWrite { address: a }),
+        types::MEM_READ => Given::Record(NewRecord::MemRead { address: a }),
+        types::MEM_WRITE => Given::Record(NewRecord::MemWrite { address: a }),
         _ => build_meta(t, a, b, c),
     }
 }
