@@ -1,4 +1,4 @@
--- `print::bytes` is safe and ends.
+-- `console::print::bytes` is safe and ends.
 -- Assumes nothing.
 use Prim.Native.Nat.{_-_, _≤_}
 use borrow.Author.Needs.{needs}

@@ -1,4 +1,4 @@
--- `splice::copy_ends1` meets its contract: the first byte, the middle one and the last are all of them.
+-- `numbers::copy::copy_ends1` meets its contract: the first byte, the middle one and the last are all of them.
 -- Assumes nothing.
 use native.Mathlib.Omega.{arith}
 use borrow.Author.Needs.{needs}

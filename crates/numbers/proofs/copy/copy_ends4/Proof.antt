@@ -1,4 +1,4 @@
--- `splice::copy_ends4` meets its contract: the first and the last bytes are all of them, by the law of ends at width 4.
+-- `numbers::copy::copy_ends4` meets its contract: the first and the last bytes are all of them, by the law of ends at width 4.
 -- Assumes nothing.
 use native.Mathlib.Omega.{arith}
 use borrow.Author.Needs.{needs}

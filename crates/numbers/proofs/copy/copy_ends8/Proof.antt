@@ -1,4 +1,4 @@
--- `splice::copy_ends8` meets its contract: the first and the last bytes are all of them, by the law of ends at width 8.
+-- `numbers::copy::copy_ends8` meets its contract: the first and the last bytes are all of them, by the law of ends at width 8.
 -- Assumes nothing.
 use native.Mathlib.Omega.{arith}
 use borrow.Author.Needs.{needs}

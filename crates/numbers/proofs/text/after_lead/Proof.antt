@@ -1,4 +1,4 @@
--- `text::after_lead` meets its contract: each class asks for what its line has behind the lead byte.
+-- `numbers::text::after_lead` meets its contract: each class asks for what its line has behind the lead byte.
 -- Assumes nothing.
 use mathlib.Core.Path.{_≡_, refl, sym}
 use mathlib.Core.Logic.{inl, inr, ⊎-elim}

@@ -1,4 +1,4 @@
--- `text::utf8_in` meets its contract. The loop's invariant: the bytes left are text with what is awaited, exactly if all of them are text.
+-- `numbers::text::utf8_in` meets its contract. The loop's invariant: the bytes left are text with what is awaited, exactly if all of them are text.
 -- Assumes nothing.
 use mathlib.Core.Path.{_≡_, refl, sym, ap, _∙_}
 use mathlib.Core.Bool.{_&&_}

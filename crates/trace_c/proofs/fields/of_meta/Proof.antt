@@ -1,4 +1,4 @@
--- `flat::shown::of_meta` meets its contract, a line a type.
+-- `trace_c::fields::of_meta` meets its contract, a line a type.
 -- Assumes nothing.
 use borrow.Author.Needs.{needs}
 use Rattle.trace_c.specs.Fields.{metaFields}

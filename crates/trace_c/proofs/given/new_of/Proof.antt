@@ -1,4 +1,4 @@
--- `given::new_of` meets its contract.
+-- `trace_c::given::new_of` meets its contract.
 -- Assumes nothing.
 use mathlib.Core.Path.{sym, _∙_}
 use borrow.Author.Needs.{needs}
