@@ -1,18 +1,21 @@
 /*
  * Reading and writing execution traces, from C or any language that can call C.
  *
- * Link with the archive libtrace_c.a. Every function here is proved: it ends, for all bytes and all
- * numbers; it reads the bytes that it is lent and no others; it writes what its last argument points
- * to, all of it at every call, and nothing else, save that aglimtaq_write writes a record into `out`,
- * and a walk writes its three last. It allocates nothing and keeps nothing: what it is lent is the
- * caller's before, during and after the call. A function may run in several threads at once, each with
- * a struct, and an output, of its own.
+ * Link with the archive libtrace_c.a. Of every function here it is proved, for all bytes and all numbers:
  *
- * A pointer to bytes is followed by their number; nobody alters them during the call. No pointer is
- * NULL, also where the number is 0. What is written overlaps nothing else that is lent.
+ * - It ends.
+ * - It reads the bytes that it is lent and no others.
+ * - It writes what its last argument points to, all of it at every call, and nothing else. Two write more:
+ *   a walk writes its last three arguments, and aglimtaq_write writes a record into `out`.
  *
- * docs/FORMAT.md describes the format; 'a part' is a stretch of the lent bytes, from `start` up to and
- * without `end`.
+ * A function allocates nothing and keeps nothing. It may run in several threads at once, each with a struct
+ * and an output of its own.
+ *
+ * A pointer to bytes is followed by their number. Nobody may alter the bytes during the call. No pointer is
+ * NULL, not even where the number is 0. What is written overlaps nothing else that is lent.
+ *
+ * docs/FORMAT.md describes the format. A part is a range of the lent bytes, from `start` up to, but without,
+ * the byte at `end`.
  */
 #ifndef AGLIMTAQ_TRACE_H
 #define AGLIMTAQ_TRACE_H
@@ -24,7 +27,7 @@
 extern "C" {
 #endif
 
-/* What a reading says. In reading backwards there is no UNFINISHED, and FINISHED is position 0. */
+/* What a reading says. Reading backwards never gives UNFINISHED, and gives FINISHED at position 0. */
 enum aglimtaq_answer {
     AGLIMTAQ_SHOWN = 0,      /* a record: type, numbers and bytes hold it */
     AGLIMTAQ_REFUSED_AT = 1, /* a record was framed, and refused: `number` says why */
@@ -52,7 +55,7 @@ enum aglimtaq_refusal {
     AGLIMTAQ_NOT_A_RECORD = 256 /* a type that is not written, or a number that does not fit its type */
 };
 
-/* The record types. Behind each: its numbers, in order; then what its part of the bytes is. */
+/* The record types. The comment after each names its numbers, in order; then what its part of the bytes is. */
 enum aglimtaq_type {
     AGLIMTAQ_NO_TYPE = 0,                  /* not a record */
     AGLIMTAQ_MAGIC = 1,                    /* */
@@ -107,14 +110,14 @@ void aglimtaq_read_next(const uint8_t *bytes, size_t length, size_t position,
 void aglimtaq_read_previous(const uint8_t *bytes, size_t length, size_t position,
                             struct aglimtaq_reading *reading);
 
-/* The one record that these bytes are, which stand at `base` in a trace: parts are counted from the
- * trace's start. The answer is SHOWN or REFUSED; position, start and end are 0. BEYOND_END where base +
- * length passes the largest size_t. */
+/* The one record that these bytes are. They begin at offset `base` of a trace, and parts are counted from the
+ * trace's start. The answer is SHOWN or REFUSED; position, start and end are 0. BEYOND_END where base + length
+ * overflows. */
 void aglimtaq_parse(const uint8_t *bytes, size_t length, size_t base,
                     struct aglimtaq_reading *reading);
 
-/* How many bytes the record has that these bytes begin with. If the answer is not more than `length` the
- * record is wholly there; otherwise so many are wanted. */
+/* Returns how many bytes the record has that these bytes begin with. If that is at most `length`, the record
+ * is wholly there; otherwise it is the number wanted. */
 uint64_t aglimtaq_one_record(const uint8_t *bytes, size_t length);
 
 /* Where the content lies of the record that these bytes begin with. */
@@ -123,7 +126,7 @@ struct aglimtaq_part {
     uint64_t end;
 };
 
-/* 0, and the part; or NO_VALUE or SHORT_SPAN, and a part of zeros. */
+/* Returns 0, and the part; or NO_VALUE or SHORT_SPAN, and a part of zeros. */
 uint64_t aglimtaq_value(const uint8_t *bytes, size_t length, struct aglimtaq_part *part);
 
 /* An entry of a register list. */
@@ -134,12 +137,13 @@ struct aglimtaq_entry {
     uint64_t next;       /* where the next entry is */
 };
 
-/* The entry at a place of a register list's bytes (the part of a REGISTER_NAME_MAP), first at 0, then at
- * each entry's `next`. 1, and the entry; or 0 and zeros, where no whole entry stands there. */
+/* The entry at offset `at` of a register list, which is the part of a REGISTER_NAME_MAP. The first call asks
+ * at 0, each later one at the `next` of the entry before. Returns 1, and the entry; or 0, and zeros, where
+ * there is no whole entry. */
 uint64_t aglimtaq_next_name(const uint8_t *list, size_t length, size_t at,
                             struct aglimtaq_entry *entry);
 
-/* How many whole records follow each other from the first byte on, whatever they hold, and in `end` where
+/* Returns how many whole records follow each other from the first byte on, whatever they hold. `end` is where
  * the last of them ends. */
 uint64_t aglimtaq_count(const uint8_t *bytes, size_t length, uint64_t *end);
 
@@ -147,12 +151,12 @@ uint64_t aglimtaq_count(const uint8_t *bytes, size_t length, uint64_t *end);
 struct aglimtaq_end {
     uint64_t position;
     uint64_t wanted;  /* the number wanted there, or 0 */
-    uint64_t refused; /* NO_START, where a walk backwards ended so; or 0 */
+    uint64_t refused; /* NO_START, where that ended a walk backwards; or 0 */
 };
 
 /* A walk over a whole trace: every reading from 0 on, as aglimtaq_read_next gives them, up to the first that
- * is not SHOWN or REFUSED_AT. In counts[0] how many records are shown; in counts[n] how many are refused with
- * n; in sizes[k] how many bytes stand in framed records, shown or refused, of the kind 4 * k. */
+ * is not SHOWN or REFUSED_AT. counts[0] is how many records are shown, and counts[n] how many are refused with
+ * n. sizes[k] is how many bytes the framed records of the kind 4 * k have, shown or refused. */
 void aglimtaq_walk(const uint8_t *bytes, size_t length, uint64_t counts[8], uint64_t sizes[64],
                    struct aglimtaq_end *end);
 
@@ -160,22 +164,24 @@ void aglimtaq_walk(const uint8_t *bytes, size_t length, uint64_t counts[8], uint
 void aglimtaq_walk_back(const uint8_t *bytes, size_t length, uint64_t counts[8], uint64_t sizes[64],
                         struct aglimtaq_end *end);
 
-/* 1 where the bytes are UTF-8 (RFC 3629), as a function's name must be; else 0. */
+/* Returns 1 where the bytes are UTF-8 (RFC 3629), as a function's name must be; else 0. */
 uint64_t aglimtaq_is_utf8(const uint8_t *bytes, size_t length);
 
-/* A record to be written. Numbers that its type does not have are not looked at. */
+/* A record to be written. Numbers that its type does not have are ignored. */
 struct aglimtaq_record {
     uint64_t type;       /* enum aglimtaq_type, but not NO_TYPE and not ARCH */
     uint64_t numbers[3]; /* its numbers, in order */
 };
 
-/* Writes a record at `position` of `out`; its name, register list or contents are the `length` bytes at
- * `bytes`, which a type that has none does not look at. 0, and the position behind the record, where the
- * next call writes; or why it is refused, and the same position: then no byte of `out` is altered. The
- * first call writes at 0. Of several reasons the first is given: NOT_A_RECORD; BEYOND_END; BAD_NAME,
- * TAKEN_TAG or SHORT_LIST; LONG_CONTENT; NO_ROOM. NOT_A_RECORD where a number has more bits than its type:
- * 8 a count or a tag, 16 a native register, 32 a register, a thread, an interrupt or a size, 64 every
- * other. */
+/* Writes a record at `position` of `out`; the first call writes at 0. The record's name, register list or
+ * contents are the `length` bytes at `bytes`; a type that has none of these ignores them.
+ *
+ * Returns 0, and in `next` the position after the record, where the next call writes. Or returns why the record
+ * is refused, and in `next` the same position; then no byte of `out` is altered. Of several reasons the first in
+ * this order is given: NOT_A_RECORD; BEYOND_END; BAD_NAME, TAKEN_TAG or SHORT_LIST; LONG_CONTENT; NO_ROOM.
+ *
+ * NOT_A_RECORD is also given where a number has more bits than its type allows: 8 for a count or a tag, 16 for a
+ * native register, 32 for a register, a thread, an interrupt or a size, 64 for every other. */
 uint64_t aglimtaq_write(uint8_t *out, size_t room, size_t position, const struct aglimtaq_record *record,
                         const uint8_t *bytes, size_t length, uint64_t *next);
 

@@ -16,7 +16,7 @@ static void print_bytes(const char *name, uint64_t length)
     printf("\n");
 }
 
-/* A record at a place of the output, and the place behind it; a refused one is said. */
+/* Writes a record at an offset of the output, and returns the offset after it. Prints a refusal. */
 static uint64_t put(uint64_t at, uint64_t type, uint64_t first, uint64_t second, const void *bytes, size_t length)
 {
     struct aglimtaq_record record = {type, {first, second, 0}};
@@ -33,7 +33,7 @@ static void example(const char *name, uint64_t type, uint64_t first, uint64_t se
     print_bytes(name, put(0, type, first, second, bytes, length));
 }
 
-/* An Instruction whose content has so many bytes, eight of them the address. */
+/* An Instruction whose content has `length` bytes, eight of them the address. */
 static void content_of(const char *name, size_t length)
 {
     example(name, AGLIMTAQ_INSTRUCTION, 0x1000, 0, filled, length - 8);

@@ -1,6 +1,5 @@
-/* Work for counting instructions through include/trace.h: a mix of records written, and the trace that they make read in
- * each way. `speed` prints how many records there are; each kind of work is one function, named after its workload in
- * docs/SPEED.md. */
+/* Work for counting instructions through include/trace.h: a mix of records is written, and their trace is read in each
+ * way. Each workload of docs/SPEED.md is one function, named after it. Prints how many records there are. */
 #include "trace.h"
 
 #include <stdio.h>
@@ -13,7 +12,7 @@ static uint8_t given[64];
 static struct aglimtaq_record records[RECORDS];
 static size_t sizes[RECORDS];
 
-/* Numbers that look random, the same at every run. */
+/* Numbers that look random and are the same in every run. */
 static uint32_t next_number(void)
 {
     static uint32_t state = 1;

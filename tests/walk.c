@@ -1,5 +1,5 @@
-/* Walks over a trace through include/trace.h, forwards and backwards, and holds what one call counts against what
- * calls for single records add up to. */
+/* Walks over a trace through include/trace.h, forwards and backwards, and compares what one call counts with the sum
+ * of calls for single records. */
 #include "trace.h"
 
 #include <stdio.h>

@@ -1,12 +1,12 @@
 /* Writes records through include/trace.h, refused ones among them, and reads them forwards and backwards. Each
- * number is held against what is expected here. Prints `ok`, or what differs. */
+ * number is compared with what is expected here. Prints `ok`, or what differs. */
 #include "trace.h"
 
 #include <stdio.h>
 #include <string.h>
 
 #define ROOM 110
-#define BEHIND 16 /* bytes behind the lent ones, which stay as they are */
+#define BEHIND 16 /* bytes after the lent ones, which stay as they are */
 #define COUNT(array) (sizeof(array) / sizeof(array)[0])
 
 /* A write call: the record, its bytes, what is to be answered, and how many bytes the record has. */
@@ -55,7 +55,7 @@ static void expect(const char *what, size_t which, uint64_t is, uint64_t due)
     }
 }
 
-/* One call at a place. What it alters lies within the record that it writes. */
+/* One call at an offset. It alters no byte outside the record that it writes. */
 static uint64_t write_one(size_t which, uint64_t at)
 {
     const struct call *call = &calls[which];
@@ -71,7 +71,7 @@ static uint64_t write_one(size_t which, uint64_t at)
     return at + call->size;
 }
 
-/* The record of a call, as it was read; its numbers that it does not have are 0 in the call too. */
+/* The record of a call, as it was read. Numbers that its type does not have are 0 in the call too. */
 static void same_record(const char *way, size_t which, uint64_t at, const struct aglimtaq_reading *r)
 {
     const struct call *call = &calls[which];
@@ -122,7 +122,7 @@ static void read_backwards(uint64_t end)
     expect("the end backwards", 0, r.position, 0);
 }
 
-/* The last record has four bytes. One is cut off; then the place lies beyond the end. */
+/* The last record has four bytes. First one of them is cut off; then the position is beyond the end. */
 static void read_refused(uint64_t end)
 {
     struct aglimtaq_reading r;

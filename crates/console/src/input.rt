@@ -3,14 +3,14 @@ use libc::STDERR_FILENO;
 use libc::STDIN_FILENO;
 use libc::STDOUT_FILENO;
 
-// What standard input has behind the bytes that were read.
+// What standard input has after the bytes that were read.
 enum Behind {
     Nothing,
     More,
     Failed,
 }
 
-// One read more. A read that failed before fails here again, or is shown by a byte behind it.
+// One more read. If a read failed before, this one fails too, or finds a byte after it.
 fn read_more() -> Behind {
     let mut one = [0u8; 1];
     let got = libc::read(STDIN_FILENO, &mut one);
@@ -24,7 +24,7 @@ fn read_more() -> Behind {
     }
 }
 
-// What stands before the message is the program's name.
+// The message, with the program's name before it.
 fn say_failed(program: &[u8]) {
     io::write_all(STDERR_FILENO, program);
     io::write_all(STDERR_FILENO, b": standard input could not be read\n");
@@ -38,7 +38,7 @@ fn say_too_long_or_failed(n: usize, program: &[u8]) {
     }
 }
 
-// Whether the n bytes that the program has read are all of standard input. Where they are not, it is said why.
+// Whether the n bytes that the program has read are all of standard input. Where they are not, a message says why.
 pub fn is_all(n: usize, program: &[u8]) -> bool {
     match read_more() {
         Behind::Nothing => return true,

@@ -1,2 +1,3 @@
+// What the programs read standard input (`input`) and print (`print`) with.
 pub mod input;
 pub mod print;

@@ -1,4 +1,4 @@
-// The walk over an input: what reading answers from 0 on, until it neither shows nor frames a record.
+// The walk over an input: what reading answers from 0 on, up to the first answer that frames no record.
 use crate::names::names_in;
 use console::print;
 use std::num::wrapping_sub_u64;

@@ -15,8 +15,7 @@ fn digit(b: u8) -> u8
     }
 }
 
-// A number with one digit more. One of seven digits is too large for an input, and so is the 100,000 that
-// stands for it.
+// A number with one more digit. More than six digits give 100,000, which is too large for an input as well.
 fn with_digit(value: usize, d: u8) -> usize
     requires { ⌜ d ≤ 9 ⌝ }
 {
@@ -27,7 +26,7 @@ fn with_digit(value: usize, d: u8) -> usize
     }
 }
 
-// A number in decimal digits, and the place behind it.
+// A number in decimal digits, and the offset after it.
 struct Number {
     value: usize,
     end: usize,
@@ -50,7 +49,7 @@ fn decimal(line: &[u8], from: usize) -> Number
     Number { value, end: i }
 }
 
-// A number of 64 bits in decimal digits, behind a space; and the place behind it.
+// A number of 64 bits in decimal digits, which follows a space; and the offset after it.
 pub struct Wide {
     pub value: u64,
     pub end: usize,
@@ -83,7 +82,7 @@ pub fn wide_number(line: &[u8], space: usize) -> Wide
     Wide { value, end: i }
 }
 
-// So many times a byte, and the place behind it in the line. Where it is not good, no run stands there.
+// A byte, how many times it is repeated, and the offset in the line after them. Where it is not good, there is no run.
 struct Run {
     good: bool,
     byte: u8,
@@ -91,7 +90,7 @@ struct Run {
     end: usize,
 }
 
-// A byte whose two digits end at a place: as often as the number behind a star says, or once.
+// A byte whose two digits end at an offset, repeated as the number after a star says, or once.
 fn run_of(byte: u8, line: &[u8], at: usize) -> Run
     requires { ⌜ at ≤ length (now line) ⌝ }
     ensures { λ r. ⌜ (at ≤ r .end) × (r .end ≤ length (now (line .entry))) ⌝ }
@@ -140,7 +139,7 @@ fn run_at(line: &[u8], at: usize) -> Run
     run_of(16 * high + low, line, at + 2)
 }
 
-// So many times a byte, put at a place of the buffer.
+// A byte, put into the buffer `times` times from an offset on.
 fn fill(out: &mut [u8], at: usize, byte: u8, times: usize)
     requires { ⌜ at + times ≤ length (now out) ⌝ }
     ensures { λ _. ⌜ length (now (out .exit)) ≡ length (now (out .entry)) ⌝ }
@@ -152,14 +151,13 @@ fn fill(out: &mut [u8], at: usize, byte: u8, times: usize)
     }
 }
 
-// How many bytes the buffer holds of an input. Where it is not good, the line is no input, or has more
-// bytes than fit.
+// How many bytes the buffer holds of an input. Where it is not good, the line is no input, or has more bytes than fit.
 pub struct Input {
     pub good: bool,
     pub count: usize,
 }
 
-// A run put behind what the buffer holds.
+// A run put after what the buffer holds.
 fn put_run(out: &mut [u8], held: usize, run: Run) -> Input
     requires { ⌜ held ≤ length (now out) ⌝ }
     ensures { λ r. ⌜ (r .count ≤ length (now (out .entry))) × (length (now (out .exit)) ≡ length (now (out .entry))) ⌝ }

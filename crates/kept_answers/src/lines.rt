@@ -6,7 +6,7 @@ use crate::input::decode;
 use crate::writes::write_line;
 use console::print;
 
-// Where the line ends that a place is in.
+// Where the line ends that holds an offset.
 fn line_end(text: &[u8], from: usize) -> usize
     requires { ⌜ from ≤ length (now text) ⌝ }
     ensures { λ r. ⌜ (from ≤ r) × (r ≤ length (now (text .entry))) ⌝ }
@@ -39,8 +39,8 @@ fn answer_input(line: &[u8], bytes: &mut [u8]) {
     }
 }
 
-// A comment is handed on; a `w` asks for a record to be written; any other line is an input, decoded into
-// the lent bytes.
+// A comment is printed as it is; a `w` asks for a record to be written. Any other line is an input, decoded into the lent
+// bytes.
 fn answer_line(line: &[u8], bytes: &mut [u8]) {
     if begins_with(line, b'#') {
         return print::text(line);

@@ -1,7 +1,6 @@
-// Reads inputs from standard input, a line each, 262,144 bytes at most, and writes what this codec
-// answers to each: the walk over it from 0 on, in one line; or the bytes that it writes of a record.
-// `stdin` has the inputs, and `stdout` what the Rust answered to them; their first lines say how they
-// were made.
+// Reads lines from standard input, 262,144 bytes at most, and prints this codec's answer to each: to an input, the walk
+// over it from 0 on; to a record, the bytes that are written. `stdin` has the lines, and `stdout` what the original Rust
+// answered to them. Their first lines say how they were made.
 mod answers;
 mod input;
 mod lines;

@@ -1,11 +1,11 @@
-// Bytes as text: pairs of hexadecimal digits, `xx*N` for a byte that stands twelve times or more in a row,
-// `-` for no bytes.
+// Bytes as text: pairs of hexadecimal digits, `xx*N` for a byte that comes N times in a row, twelve or more, and `-` for no
+// bytes.
 ghost use Prim.Native.Nat.{_+_, _≤_, _<_};
 ghost use lib.ListN.{length};
 use console::print;
 use libc::STDOUT_FILENO;
 
-// How often the byte at a place stands there in a row.
+// How many times in a row the byte at an offset comes there.
 fn run_from(s: &[u8], at: usize) -> usize
     requires { ⌜ at < length (now s) ⌝ }
     ensures { λ r. ⌜ (0 < r) × (at + r ≤ length (now (s .entry))) ⌝ }
@@ -25,7 +25,7 @@ fn digits(byte: u8) {
     io::print_hex(STDOUT_FILENO, byte as u64, 2);
 }
 
-// So many times a byte, each by its digits.
+// The digits of a byte, `times` times.
 fn each(byte: u8, times: usize) {
     let mut left = times;
     while left > 0 {
@@ -42,7 +42,7 @@ fn run(byte: u8, times: usize) {
     print::labelled(b"*", times as u64);
 }
 
-// A space stands around a run that is written once.
+// A run that is written as `xx*N` has a space before and after it.
 fn space(at: usize, times: usize, before: usize) {
     if at == 0 {
         return;

@@ -22,7 +22,7 @@ fn written(record: &[u64; 4], bytes: &[u8]) {
     tokens(&out[..end]);
 }
 
-// The four numbers of a line, each behind a space; and the place behind them.
+// The four numbers of a line, each after a space; and the offset after them.
 struct Numbers {
     record: [u64; 4],
     end: usize,
@@ -39,7 +39,7 @@ fn asked(line: &[u8]) -> Numbers {
     }
 }
 
-// The record that a line asks for, its bytes decoded into the lent ones.
+// The bytes of the record that a line asks for. What the record holds is decoded into the lent bytes.
 pub fn write_line(line: &[u8], bytes: &mut [u8]) {
     let found = asked(line);
     let record = found.record;

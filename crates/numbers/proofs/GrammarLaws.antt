@@ -15,7 +15,7 @@ use Rattle.numbers.specs.Text.{Range, Line, within, nothing, lines, clas
 
 -- ---- text is octets
 
--- bytes behind a lead byte b, that with it make a character of one of the lines
+-- the bytes that make a character of one of the lines after its lead byte b
 record Led (ls : List Line) (b : ℕ) (c : List ℕ) : Type 0 where
   of : Line
   among : List·Memᴰ of ls
@@ -43,7 +43,7 @@ unfolding asksIn classIn
 led [] b c h = absurd (none-lies h)
 led (l ∷ ls) b c h = led-here l ls b c (within (l .lead) b) refl (led ls b c) h
 
--- text with ranges given falls into bytes that lie in them, and octets
+-- text with ranges given is bytes that lie in them, and then octets
 record Falls (rs : List Range) (s : List ℕ) : Type 0 where
   first : List ℕ
   rest : List ℕ
@@ -108,7 +108,7 @@ below r l (List·Memᴰ·head {x = x} {xs = xs} e) h =
     subst (λ (m : Line). r .high < m .lead .low) (sym e) (ltb→lt _ _ (and-yes (ltb (r .high) (x .lead .low)) (above r xs) h .0))
 below r l (List·Memᴰ·tail {x = x} {xs = xs} m) h = below r l m (and-yes (ltb (r .high) (x .lead .low)) (above r xs) h .1)
 
--- what the class of b asks for is what stands behind b's lead range
+-- what the class of b asks for is what follows the lead range that holds b
 behind-is : (b : ℕ) (l : Line) {ls : List Line} → List·Memᴰ l ls → T (ascending ls) → T (within (l .lead) b)
     → asksIn ls (classIn ls b) ≡ l .behind
 unfolding asksIn classIn ascending

@@ -20,11 +20,11 @@ drop-past l e k h =
 pub length-part : (s : List ℕ) (at n : ℕ) → at + n ≤ length s → length (part s at n) ≡ n
 length-part s at n h = simp (length-take, length-drop) (omega arith)
 
--- a part falls into two at any place
+-- a part is two adjacent parts, split at any offset
 pub part-add : (s : List ℕ) (at m n : ℕ) → part s at (m + n) ≡ part s at m ++ part s (at + m) n
 part-add s at m n = take-add m n (drop at s) ∙ ap (λ (r : List ℕ). part s at m ++ take n r) (drop-drop m at s)
 
--- the part behind the first of three lists
+-- of three lists in a row, the second is a part
 pub part-at : (p q r : List ℕ) (at n : ℕ) → length p ≡ at → length q ≡ n → part (p ++ (q ++ r)) at n ≡ q
 part-at p q r at n e f = ap (take n) (drop-at p (q ++ r) at e) ∙ take-at q r n f
 

@@ -49,7 +49,7 @@ leValue-bound (b ∷ bs) h =
     let ih : leValue bs < 256 ^ length bs = leValue-bound bs (λ i. h (suc i)) in
     rw pow-succ' (omega arith)
 
--- ---- a number that falls into two at any width
+-- ---- a number as two, split at any width
 pub leValue-append : (xs ys : List ℕ) → leValue (xs ++ ys) ≡ leValue xs + 256 ^ length xs * leValue ys
 unfolding leValue
 leValue-append [] ys = rw (pow-zero, one-mul, zero-add)
@@ -63,7 +63,7 @@ leBytes-add zero n v = rw (zero-add, pow-zero, div-one)
 leBytes-add (suc m) n v =
     rw (suc-add, pow-succ', ← div-div-eq-div-mul) (ap (_∷_ (v % 256)) (leBytes-add m n (v / 256)))
 
--- what stands above the width is left out
+-- what is above the width is left out
 pub leBytes-mod : (w v : ℕ) → leBytes w (v % 256 ^ w) ≡ leBytes w v
 unfolding leBytes
 leBytes-mod zero v = refl
@@ -82,7 +82,7 @@ pub set-is-leBytes : (d : List ℕ) (at v : ℕ) → at < length d → v < 256 �
 unfolding leBytes
 set-is-leBytes d at v h small = set-is-splice d at v h ∙ ap (λ (b : ℕ). splice d at (b ∷ [])) (sym (mod-eq-of-lt small))
 
--- ---- read and written by halves, at a place
+-- ---- read and written by halves, at an offset
 pub leValue-halves : (s : List ℕ) (at m n : ℕ) → at + m ≤ length s
     → leValue (part s at (m + n)) ≡ leValue (part s at m) + 256 ^ m * leValue (part s (at + m) n)
 leValue-halves s at m n h =
@@ -111,7 +111,7 @@ leBytes-part s at w h inside =
     ap (λ (k : ℕ). leBytes k (leValue (part s at w))) (sym (length-part s at w inside))
     ∙ leBytes-leValue (part s at w) (bytes-part s at w h)
 
--- bytes of s from place j on, where its first k stand already and reach to place j at least
+-- bytes of s written from offset j on, where its first k are there already and k is at least j
 pub splice-moved : (d : List ℕ) (at : ℕ) (s : List ℕ) (k j w : ℕ) → Bytes s → j ≤ k → k ≤ j + w → j + w ≤ length s → at ≤ length d
     → splice (splice d at (take k s)) (at + j) (leBytes w (leValue (part s j w))) ≡ splice d at (take (j + w) s)
 splice-moved d at s k j w h low high inside room =

@@ -1,4 +1,4 @@
--- Laws of `splice`: what it keeps, what stands at the place, and how adjacent writes compose. Assumes nothing.
+-- Laws of `splice`: what it keeps, what is at the offset, and how adjacent writes compose. Assumes nothing.
 use mathlib.Core.Path.{_≡_, refl, sym, ap, ap₂, _∙_}
 use mathlib.Core.List.{List, [], _∷_, _++_, append-assoc, append-nil}
 use Prim.Native.Nat.{ℕ, _+_, _-_, _≤_, _<_}
@@ -17,19 +17,19 @@ module _ (d : List ℕ) (at : ℕ) (ys : List ℕ) where
       let inside : at ≤ length d = omega arith in
       simp (length-append, length-take-le, length-drop) (omega arith)
 
-  -- before the place
+  -- before the offset
   pub take-splice : (k : ℕ) → k ≤ at → at ≤ length d → take k (splice d at ys) ≡ take k d
   unfolding splice
   take-splice k h inside =
       let short : k ≤ length (take at d) = rw length-take-le h in
       rw (take-append-le, take-take)
 
-  -- at the place
+  -- at the offset
   pub part-splice : at ≤ length d → part (splice d at ys) at (length ys) ≡ ys
   unfolding splice
   part-splice inside = part-at (take at d) ys (drop (at + length ys) d) at (length ys) (length-take-le at d inside) refl
 
-  -- up to a place within what was written, and up to its end
+  -- up to an offset within what was written, and up to its end
   pub take-splice-in : (k : ℕ) → k ≤ length ys → at ≤ length d → take (at + k) (splice d at ys) ≡ take at d ++ take k ys
   unfolding splice
   take-splice-in k h inside =
@@ -41,7 +41,7 @@ module _ (d : List ℕ) (at : ℕ) (ys : List ℕ) where
   pub take-splice-end : at ≤ length d → take (at + length ys) (splice d at ys) ≡ take at d ++ ys
   take-splice-end inside = take-splice-in (length ys) (le-refl (length ys)) inside ∙ ap (λ (r : List ℕ). take at d ++ r) (take-length ys)
 
-  -- behind it
+  -- after what was written
   pub drop-splice-end : at ≤ length d → drop (at + length ys) (splice d at ys) ≡ drop (at + length ys) d
   unfolding splice
   drop-splice-end inside =
@@ -53,7 +53,7 @@ module _ (d : List ℕ) (at : ℕ) (ys : List ℕ) where
       let e : ℕ = at + length ys in
       drop-past (splice d at ys) e k h ∙ ap (drop (k - e)) (drop-splice-end inside) ∙ sym (drop-past d e k h)
 
-  -- a write that begins within the one before, or at its end, and reaches its end at least
+  -- a write that begins within the one before or at its end, and reaches at least to its end
   pub splice-over : (k : ℕ) (zs : List ℕ) → k ≤ length ys → length ys ≤ k + length zs → at ≤ length d
       → splice (splice d at ys) (at + k) zs ≡ splice d at (take k ys ++ zs)
   unfolding splice
@@ -87,8 +87,7 @@ pub set-is-splice : (d : List ℕ) (at v : ℕ) → at < length d → set d at v
 unfolding splice
 set-is-splice d at v h = set-split d at v h ∙ rw add-one refl
 
--- ---- Adjacent writes, one after the other, as a function makes them: in d the bytes ys were written at place at, which left d′ and the
--- next place.
+-- ---- adjacent writes, one after the other: the bytes ys were written into d at offset at, which left d′ and the next offset
 pub record Put (d : List ℕ) (at : ℕ) (ys : List ℕ) (d′ : List ℕ) (next : ℕ) : Type 0 where
   pub ends : next ≡ at + length ys
   pub is : d′ ≡ splice d at ys

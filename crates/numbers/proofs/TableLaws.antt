@@ -1,4 +1,4 @@
--- A table's rule, from one test that is computed over the whole table. Assumes nothing.
+-- A lookup table's rule, from one test that is computed over the whole table. Assumes nothing.
 use mathlib.Core.Path.{_≡_, sym, ap, _∙_}
 use mathlib.Core.Bool.{Bool, true, _&&_}
 use mathlib.Core.List.{List, [], _∷_}
@@ -10,7 +10,7 @@ use lib.Dec.{T, eqb, eqb→eq}
 use lib.ListN.{length, getD}
 use Rattle.numbers.specs.Inner.{Tabulates}
 
--- each entry is f of its place, counted from i
+-- each entry is f of its index, counted from i
 abbrev pub tabulates : (ℕ → ℕ) → ℕ → List ℕ → Bool
 tabulates f i [] = true
 tabulates f i (x ∷ xs) = eqb x (f i) && tabulates f (suc i) xs

@@ -1,4 +1,4 @@
--- Laws of `utf8From` over the rest of a slice: a byte at the place, and the end. Assumes nothing.
+-- Laws of `utf8From` over the rest of a slice: the next byte, and the end. Assumes nothing.
 use mathlib.Core.Path.{_≡_, refl, sym, ap, _∙_}
 use mathlib.Core.Bool.{true, _&&_}
 use mathlib.Core.List.{List, [], _∷_}
@@ -37,7 +37,7 @@ pub ascii-asks : (b : ℕ) → b < 128 → asks (classOf b) ≡ []
 unfolding asks classOf
 ascii-asks b h = let e : leb b 127 ≡ true = le-leb b 127 (omega arith) in rw (leb·zero, e)
 
--- of the bytes awaited the first, and then tails
+-- the first of the bytes awaited, and then tails
 pub awaited-next : (left low high : ℕ) → (left ≡ 0 → ⊥) → awaited left low high ≡ (low to high) ∷ awaited (left - 1) 0x80 0xbf
 unfolding awaited
 awaited-next zero low high h = absurd (h refl)

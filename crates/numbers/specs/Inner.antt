@@ -7,12 +7,12 @@ use lib.Dec.{ltb}
 use lib.ListN.{getD, replicate}
 use Rattle.numbers.specs.Text.{Range, _to_, tail}
 
--- left more bytes, the next from low to high, the others tails
+-- the ranges of `left` more bytes: the next from low to high, the others tails
 unfoldable pub awaited : ℕ → ℕ → ℕ → List Range
 awaited zero low high = []
 awaited (suc n) low high = (low to high) ∷ replicate n tail
 
--- a table of n entries, that at place k is f k
+-- a table of n entries, of which entry k is f k
 pub record Tabulates (f : ℕ → ℕ) (n : ℕ) (table : List ℕ) : Type 0 where
   pub entry : (k : ℕ) → k < n → getD table k 0 ≡ f k
 

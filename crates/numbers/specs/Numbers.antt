@@ -1,6 +1,5 @@
--- Document 01, "Frames" and "Contents": a number in so many bytes, least significant byte first, defined once over the width.
--- The other order is the same list turned round, so it joins by `leValue (reverse bs)` and `reverse (leBytes w n)`.
--- Assumes nothing.
+-- Document 01, "Frames" and "Contents": a number in w bytes, least significant byte first, defined once over the width. The other
+-- byte order is the same list reversed: `leValue (reverse bs)` and `reverse (leBytes w n)`. Assumes nothing.
 use mathlib.Core.List.{List, [], _∷_}
 use Prim.Native.Nat.{ℕ, zero, suc, _+_, _*_, _/_, _%_}
 

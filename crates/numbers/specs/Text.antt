@@ -21,11 +21,11 @@ within r b = leb (r .low) b && leb b (r .high)
 abbrev pub tail : Range
 tail = 0x80 to 0xbf
 
--- a range that holds no byte: what a byte asks for that leads no character
+-- a range that holds no byte: nothing may follow a byte that leads no character
 abbrev pub nothing : Range
 nothing = 1 to 0
 
--- one form of character: the range of its lead byte, and those of the bytes behind it
+-- one form of character: the range of its lead byte, and those of the bytes after it
 pub record Line : Type 0 where
   pub lead : Range
   pub behind : List Range
@@ -33,7 +33,7 @@ pub record Line : Type 0 where
 abbrev pub line : Range → List Range → Line
 line l rs = record { lead = l; behind = rs }
 
--- UTF8-1, UTF8-2, UTF8-3 and UTF8-4, a line for each of their alternatives. A line's place in this list, counted from 0, is what 01 calls
+-- UTF8-1, UTF8-2, UTF8-3 and UTF8-4, a line for each of their alternatives. A line's index in this list, counted from 0, is what 01 calls
 -- the lead byte's class.
 abbrev pub lines : List Line
 lines =
@@ -48,18 +48,18 @@ lines =
     ∷ line (0xf4 to 0xf4) (0x80 to 0x8f ∷ tail ∷ tail ∷ [])  -- / %xF4 %x80-8F 2( UTF8-tail )
     ∷ []
 
--- the place of the first line whose lead range holds b; behind the last where none does
+-- the index of the first line whose lead range holds b, or the number of lines where none does
 unfoldable pub classIn : List Line → ℕ → ℕ
 classIn [] b = 0
 classIn (l ∷ ls) b = cond (within (l .lead) b) 0 (suc (classIn ls b))
 
--- what the line at a place asks for behind its lead byte
+-- the ranges after the lead byte, by the line's index
 unfoldable pub asksIn : List Line → ℕ → List Range
 asksIn [] k = nothing ∷ []
 asksIn (l ∷ ls) zero = l .behind
 asksIn (l ∷ ls) (suc k) = asksIn ls k
 
--- the class of a lead byte, and what a class asks for
+-- the class of a lead byte, and the ranges of the bytes after it
 unfoldable pub classOf : ℕ → ℕ
 unfolding classIn
 classOf b = classIn lines b
@@ -68,7 +68,7 @@ unfoldable pub asks : ℕ → List Range
 unfolding asksIn
 asks k = asksIn lines k
 
--- text of which the ranges of its next bytes are given: a character begins where none is
+-- whether bytes are text, given the ranges of the next ones; where none is given, a character begins
 unfoldable pub utf8From : List Range → List ℕ → Bool
 unfolding classOf asks
 utf8From [] [] = true

@@ -1,4 +1,4 @@
-// Bytes copied to a place of a buffer.
+// Bytes copied to an offset of a buffer. Most contents are short, so up to sixteen bytes are copied without a loop.
 ghost use mathlib.Core.Path.{_≡_};
 ghost use Prim.Native.Nat.{_+_, _≤_};
 ghost use lib.ListN.{length};
@@ -52,7 +52,7 @@ fn copy_ends8(out: &mut [u8], at: usize, s: &[u8])
     put8(out, at + last, last8);
 }
 
-// Up to sixteen bytes: the first and the last ones of a size, which may overlap.
+// Up to sixteen bytes, by the one of the three functions above that takes their number.
 fn copy_short(out: &mut [u8], at: usize, s: &[u8])
     requires { ⌜ length (now s) ≤ 16 ⌝ }
     requires { ⌜ at + length (now s) ≤ length (now out) ⌝ }
@@ -71,7 +71,7 @@ fn copy_short(out: &mut [u8], at: usize, s: &[u8])
     }
 }
 
-// All of s, from place at of out on.
+// All of s, copied into out from offset at on.
 pub fn copy(out: &mut [u8], at: usize, s: &[u8])
     requires { ⌜ at + length (now s) ≤ length (now out) ⌝ }
     ensures { λ _. ⌜ now (out .exit) ≡ splice (now (out .entry)) at (now (s .entry)) ⌝ }

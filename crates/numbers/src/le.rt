@@ -1,13 +1,12 @@
-// Numbers in bytes, least significant byte first, read and written at a place of a slice. A width
-// of two, four or eight is two halves, which the compiler joins into one load or one store.
-// The caller sees to it that the bytes lie within the slice.
+// Numbers in bytes, least significant byte first, read and written at an offset of a slice. The caller makes sure that
+// the bytes lie within the slice. Two, four or eight bytes are two halves, which the compiler joins into one load or store.
 ghost use mathlib.Core.Path.{_≡_};
 ghost use Prim.Native.Nat.{_+_, _≤_};
 ghost use lib.ListN.{length};
 ghost use Rattle.numbers.specs.Lists.{part, splice};
 ghost use Rattle.numbers.specs.Numbers.{leValue, leBytes};
 
-// The number in one, two, four or eight bytes from place at on.
+// The number in one, two, four or eight bytes from offset at on.
 pub fn get1(s: &[u8], at: usize) -> u8
     requires { ⌜ at + 1 ≤ length (now s) ⌝ }
     ensures { λ r. ⌜ r ≡ leValue (part (now (s .entry)) at 1) ⌝ }
@@ -42,7 +41,7 @@ pub fn get8(s: &[u8], at: usize) -> u64
     low + 4294967296 * high
 }
 
-// A number into one, two, four or eight bytes from place at on; no other byte is altered.
+// A number written into one, two, four or eight bytes from offset at on. No other byte is altered.
 pub fn put1(out: &mut [u8], at: usize, value: u8)
     requires { ⌜ at + 1 ≤ length (now out) ⌝ }
     ensures { λ _. ⌜ now (out .exit) ≡ splice (now (out .entry)) at (leBytes 1 value) ⌝ }
@@ -74,7 +73,7 @@ pub fn put8(out: &mut [u8], at: usize, value: u64)
     put4(out, at + 4, (value / 4294967296) as u32);
 }
 
-// A width that no tree above has: byte by byte, the least significant first.
+// A number in any width, byte by byte, the least significant first.
 fn put_each(out: &mut [u8], at: usize, width: usize, value: u64)
     requires { ⌜ at + width ≤ length (now out) ⌝ }
     ensures { λ _. ⌜ now (out .exit) ≡ splice (now (out .entry)) at (leBytes width value) ⌝ }
@@ -90,7 +89,8 @@ fn put_each(out: &mut [u8], at: usize, width: usize, value: u64)
     }
 }
 
-// A number into so many bytes: zeros above it, and without what does not fit.
+// A number in `width` bytes: zero bytes above it, and what does not fit is left out. There is no largest width: a name of
+// n bytes is filled up by the number 0 in 32 - n bytes.
 pub fn put(out: &mut [u8], at: usize, width: usize, value: u64)
     requires { ⌜ at + width ≤ length (now out) ⌝ }
     ensures { λ _. ⌜ now (out .exit) ≡ splice (now (out .entry)) at (leBytes width value) ⌝ }

@@ -1,14 +1,14 @@
-// Which bytes are text: RFC 3629, with the lead byte's class from a table of 256.
+// Which bytes are text: RFC 3629, with the lead byte's class from a lookup table of 256 entries.
 ghost use mathlib.Core.Path.{_≡_};
 ghost use Rattle.numbers.specs.Text.{asks, classOf, utf8};
 ghost use Rattle.numbers.specs.Inner.{awaited, Tabulates};
 ghost use Rattle.numbers.specs.Inner.{highestFrom};
 
-// What the bytes so far still ask for: how many more bytes, and the lowest and the highest that the
-// next may be; the others are tails.
+// What must follow the bytes so far: how many more bytes, and the lowest and the highest that the next may be. The others
+// are tails.
 struct Awaited(u8, u8, u8);
 
-// What a lead byte of a class asks for; of a class that no line has, a range that holds no byte.
+// What must follow a lead byte of a class. For a class that no line has, it is a range that holds no byte.
 fn after_lead(class: u8) -> Awaited
     ensures { λ r. ⌜ awaited (r .0) (r .1) (r .2) ≡ asks class ⌝ }
 {
@@ -25,7 +25,7 @@ fn after_lead(class: u8) -> Awaited
     }
 }
 
-// Whether all of s is text, with the table lent, so that no byte builds it anew.
+// Whether all of s is text. The lookup table is lent, so that it is not built again for each byte.
 fn utf8_in(classes: &[u8; 256], s: &[u8]) -> bool
     requires { ⌜ Tabulates classOf 256 (now classes) ⌝ }
     ensures { λ r. ⌜ r ≡ utf8 (now (s .entry)) ⌝ }
@@ -53,8 +53,7 @@ fn utf8_in(classes: &[u8; 256], s: &[u8]) -> bool
     next.0 == 0
 }
 
-// The highest byte; 0 of none. There is no way out of the loop before its end, so that the compiler
-// takes many bytes at a step.
+// The highest byte, or 0 if there is none. The loop has no early exit, so that the compiler takes many bytes at a step.
 fn highest(s: &[u8]) -> u8
     ensures { λ r. ⌜ r ≡ highestFrom 0 (now (s .entry)) ⌝ }
 {
@@ -69,7 +68,7 @@ fn highest(s: &[u8]) -> u8
     top
 }
 
-// Whether all of s is text. ASCII is; the table is made for other bytes only, once.
+// Whether all of s is text. ASCII always is; only for other bytes is the lookup table built, once.
 pub fn is_utf8(s: &[u8]) -> bool
     ensures { λ r. ⌜ r ≡ utf8 (now (s .entry)) ⌝ }
 {
@@ -80,7 +79,7 @@ pub fn is_utf8(s: &[u8]) -> bool
     utf8_in(&classes, s)
 }
 
-// The class of each byte as a lead byte: the place of its line in RFC 3629's list, or 9 where it leads
+// The class of each byte as a lead byte: the index of its line in RFC 3629's grammar, counted from 0, or 9 where it leads
 // no character.
 const CLASSES: [u8; 256] = [
     0,

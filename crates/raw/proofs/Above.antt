@@ -1,8 +1,8 @@
--- A function over a plain slice that makes a `RawRecord` of it and calls one of its methods, as `plain::kind` does: one walk, by hand, for every such
--- function. What differs from one to the other is a parameter, as in `Thin.antt`: the result's type R, its MIR type τ, the method's key k, what the method
--- ensures, E, and what the function ensures, F. All that is known of `new` and of the method is that they meet their contracts, and all that is asked is that
--- E gives F of the slice held.
--- A `&[u8]` is Copy: what it owns is had twice, one copy is kept for the exit, and the other goes into the struct and with it to the method.
+-- A function over a plain slice that makes a `RawRecord` of it and calls one of its methods, as `plain::kind` does: one proof by hand, a walk
+-- through the MIR, for every such function. As in `Thin.antt`, what differs is a parameter: the result's type R, its MIR type τ, the method's
+-- key k, what the method ensures (E) and what the function ensures (F). Of `new` and of the method only their contracts are used, and E must
+-- imply F of the slice that the struct holds.
+-- A `&[u8]` is Copy, so what it owns is there twice: one copy is kept for the exit, the other goes into the struct and so to the method.
 -- Assumes nothing.
 use mathlib.Core.Path.{_≡_, refl}
 use Prim.Native.Nat.{ℕ}

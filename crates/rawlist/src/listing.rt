@@ -1,4 +1,4 @@
-// The listing of a trace, line by line, as far as the iterator's position moves.
+// The listing of a trace, line by line, as long as the iterator's position moves.
 use crate::record::kind;
 use crate::record::number;
 use console::print;
@@ -7,9 +7,10 @@ use raw::plain::len;
 use raw::trace_buffer::next_from;
 use records::bytes::bytes;
 use records::position::Answer;
+use records::position::Framed;
 use records::position::Position;
 
-// A framed record: where it starts, and what its own bytes tell.
+// The line of a framed record: where it starts, and what its own bytes tell.
 fn put_record(s: &[u8], part: Part) {
     let framed = bytes(s, part);
     print::count(part.start as u64, b" ");
@@ -18,28 +19,25 @@ fn put_record(s: &[u8], part: Part) {
     print::count(number(framed) as u64, b"\n");
 }
 
-fn put_end(at: usize) {
-    print::labelled(b"end ", at as u64);
-    print::text(b"\n");
-}
-
-fn put_unfinished(at: usize, wanted: usize) {
-    print::labelled(b"unfinished ", at as u64);
-    print::labelled(b" ", wanted as u64);
+// The last line: a record that wants more bytes, or the end.
+fn put_last(at: usize, wanted: usize) {
+    if wanted == 0 {
+        print::labelled(b"end ", at as u64);
+    } else {
+        print::labelled(b"unfinished ", at as u64);
+        print::labelled(b" ", wanted as u64);
+    }
     print::text(b"\n");
 }
 
 fn put_line(s: &[u8], at: usize, answer: Answer) {
-    match answer {
-        Answer::Shown(_, part) => put_record(s, part),
-        Answer::RefusedAt(_, part) => put_record(s, part),
-        Answer::Refused(_) => put_end(at),
-        Answer::Finished => put_end(at),
-        Answer::Unfinished(wanted) => put_unfinished(at, wanted),
+    match answer.framed() {
+        Framed::Record(part, _) => put_record(s, part),
+        Framed::Nothing(wanted, _) => put_last(at, wanted),
     }
 }
 
-// A call that frames no record leaves the position, and is the last.
+// The listing of s. A call that frames no record leaves the position where it is, and is the last.
 pub fn list(s: &[u8]) {
     let mut at = 0;
     let mut more = true;

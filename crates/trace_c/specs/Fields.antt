@@ -1,5 +1,5 @@
--- What was read, as the numbers of include/trace.h: each struct as the list of its numbers, in order. A field that an answer does not use
--- is 0. Assumes nothing.
+-- What was read, as the numbers of include/trace.h: a record's fields, and struct aglimtaq_reading as the list of its numbers, in order.
+-- A field that an answer does not use is 0. Assumes nothing.
 use mathlib.Core.List.{List, [], _∷_}
 use Prim.Native.Nat.{ℕ}
 use Rattle.frames.specs.declared.read.Part.{Part}

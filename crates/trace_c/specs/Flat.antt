@@ -1,5 +1,5 @@
--- What the functions of include/trace.h that read write: each struct as the list of its numbers, in order. A field that an answer does not
--- use is 0. Assumes nothing.
+-- What the reading functions of include/trace.h hand back: each struct as the list of its numbers, in order. A field that an answer does
+-- not use is 0. Assumes nothing.
 use mathlib.Core.List.{List, [], _∷_}
 use Prim.Native.Nat.{ℕ}
 use Rattle.frames.specs.declared.read.Content.{Content}

@@ -1,4 +1,5 @@
--- The numbers of the record types in include/trace.h: enum aglimtaq_type, in the source's order. Assumes nothing.
+-- The numbers of the record types for C, each named here once: enum aglimtaq_type of include/trace.h, in the source's order. Assumes
+-- nothing.
 use Prim.Native.Nat.{ℕ}
 use Rattle.records.specs.Contents.RecordType.{magic, arch, registerNameMap, unknownFileMeta, map, unmap, instruction, pc}
 use Rattle.records.specs.Contents.RecordType.{instructionCount, threadId, processId, callBegin, callModeledOpsEnd, callEnd}

@@ -1,7 +1,33 @@
-// What was read, as the numbers of include/trace.h.
+// What was read, as the numbers that include/trace.h has for it.
 ghost use mathlib.Core.Path.{_≡_};
 ghost use Rattle.trace_c.specs.Fields.{fields, none, fileMetaFields, metaFields, fieldsOf, flatAnswer, flatParsed};
-use crate::types;
+use crate::types::ADDRESS_DEPENDENCY_EDGE;
+use crate::types::ARCH;
+use crate::types::CALL_BEGIN;
+use crate::types::CALL_END;
+use crate::types::CALL_MODELED_OPS_END;
+use crate::types::INSTRUCTION;
+use crate::types::INSTRUCTION_COUNT;
+use crate::types::INTERRUPT;
+use crate::types::MAGIC;
+use crate::types::MAP;
+use crate::types::MEM_READ;
+use crate::types::MEM_WRITE;
+use crate::types::MEMORY_ALLOCATED;
+use crate::types::MEMORY_FREED;
+use crate::types::MEMORY_REALLOCATED;
+use crate::types::OPERAND_UNCERTAIN;
+use crate::types::PC;
+use crate::types::PROCESS_ID;
+use crate::types::REG_READ;
+use crate::types::REG_WRITE;
+use crate::types::REG_WRITE_NATIVE;
+use crate::types::REGISTER_DEPENDENCY_EDGE;
+use crate::types::REGISTER_NAME_MAP;
+use crate::types::THREAD_ID;
+use crate::types::UNKNOWN_FILE_META;
+use crate::types::UNKNOWN_META;
+use crate::types::UNMAP;
 use frames::read::Part;
 use records::parse::Parsed;
 use records::position::Answer;
@@ -50,12 +76,8 @@ fn of_file_meta(file_meta: FileMeta) -> Fields
         FileMeta::RegisterNameMap {
             num_records,
             records,
-        } => with_bytes(types::REGISTER_NAME_MAP, num_records as u64, records),
-        FileMeta::Unknown { tag, contents } => with_bytes(
-            types::UNKNOWN_FILE_META,
-            tag as u64,
-            contents,
-        ),
+        } => with_bytes(REGISTER_NAME_MAP, num_records as u64, records),
+        FileMeta::Unknown { tag, contents } => with_bytes(UNKNOWN_FILE_META, tag as u64, contents),
     }
 }
 
@@ -63,53 +85,38 @@ fn of_meta(meta: Meta) -> Fields
     ensures { λ r. ⌜ r ≡ metaFields meta ⌝ }
 {
     match meta {
-        Meta::InstructionCount { tick } => numbers(types::INSTRUCTION_COUNT, tick, 0, 0),
-        Meta::ThreadId { threadid } => numbers(types::THREAD_ID, threadid as u64, 0, 0),
-        Meta::ProcessId { processid } => numbers(types::PROCESS_ID, processid, 0, 0),
+        Meta::InstructionCount { tick } => numbers(INSTRUCTION_COUNT, tick, 0, 0),
+        Meta::ThreadId { threadid } => numbers(THREAD_ID, threadid as u64, 0, 0),
+        Meta::ProcessId { processid } => numbers(PROCESS_ID, processid, 0, 0),
         Meta::CallBegin {
             function_name,
             address,
-        } => with_bytes(types::CALL_BEGIN, address, function_name),
-        Meta::CallModeledOpsEnd => numbers(types::CALL_MODELED_OPS_END, 0, 0, 0),
+        } => with_bytes(CALL_BEGIN, address, function_name),
+        Meta::CallModeledOpsEnd => numbers(CALL_MODELED_OPS_END, 0, 0, 0),
         Meta::CallEnd {
             call_instruction_addr,
-        } => numbers(types::CALL_END, call_instruction_addr, 0, 0),
-        Meta::OperandUncertain => numbers(types::OPERAND_UNCERTAIN, 0, 0, 0),
-        Meta::AddressDependencyEdge { address } => numbers(
-            types::ADDRESS_DEPENDENCY_EDGE,
-            address,
-            0,
-            0,
-        ),
+        } => numbers(CALL_END, call_instruction_addr, 0, 0),
+        Meta::OperandUncertain => numbers(OPERAND_UNCERTAIN, 0, 0, 0),
+        Meta::AddressDependencyEdge { address } => numbers(ADDRESS_DEPENDENCY_EDGE, address, 0, 0),
         Meta::RegisterDependencyEdge { register } => numbers(
-            types::REGISTER_DEPENDENCY_EDGE,
+            REGISTER_DEPENDENCY_EDGE,
             register.0 as u64,
             0,
             0,
         ),
         Meta::MemoryAllocated { address, size } => numbers(
-            types::MEMORY_ALLOCATED,
+            MEMORY_ALLOCATED,
             address,
             size as u64,
             0,
         ),
-        Meta::MemoryFreed { address, size } => numbers(
-            types::MEMORY_FREED,
-            address,
-            size as u64,
-            0,
-        ),
+        Meta::MemoryFreed { address, size } => numbers(MEMORY_FREED, address, size as u64, 0),
         Meta::MemoryReallocated {
             new_address,
             old_address,
             size,
-        } => numbers(
-            types::MEMORY_REALLOCATED,
-            new_address,
-            old_address,
-            size as u64,
-        ),
-        Meta::Unknown { tag, contents } => with_bytes(types::UNKNOWN_META, tag as u64, contents),
+        } => numbers(MEMORY_REALLOCATED, new_address, old_address, size as u64),
+        Meta::Unknown { tag, contents } => with_bytes(UNKNOWN_META, tag as u64, contents),
     }
 }
 
@@ -117,36 +124,28 @@ fn of_record(record: Record) -> Fields
     ensures { λ r. ⌜ r ≡ fieldsOf «record» ⌝ }
 {
     match record {
-        Record::Magic => numbers(types::MAGIC, 0, 0, 0),
-        Record::Arch { contents } => with_bytes(types::ARCH, 0, contents),
+        Record::Magic => numbers(MAGIC, 0, 0, 0),
+        Record::Arch { contents } => with_bytes(ARCH, 0, contents),
         Record::FileMeta(file_meta) => of_file_meta(file_meta),
-        Record::Map { base, contents } => with_bytes(types::MAP, base, contents),
-        Record::Unmap { base, length } => numbers(types::UNMAP, base, length, 0),
-        Record::Instruction { pc, insbytes } => with_bytes(types::INSTRUCTION, pc, insbytes),
-        Record::Pc { pc } => numbers(types::PC, pc, 0, 0),
+        Record::Map { base, contents } => with_bytes(MAP, base, contents),
+        Record::Unmap { base, length } => numbers(UNMAP, base, length, 0),
+        Record::Instruction { pc, insbytes } => with_bytes(INSTRUCTION, pc, insbytes),
+        Record::Pc { pc } => numbers(PC, pc, 0, 0),
         Record::Meta(meta) => of_meta(meta),
-        Record::Interrupt { num, tick } => numbers(types::INTERRUPT, num as u64, tick, 0),
-        Record::RegRead { regnum, contents } => with_bytes(
-            types::REG_READ,
-            regnum.0 as u64,
-            contents,
-        ),
-        Record::RegWrite { regnum, contents } => with_bytes(
-            types::REG_WRITE,
-            regnum.0 as u64,
-            contents,
-        ),
+        Record::Interrupt { num, tick } => numbers(INTERRUPT, num as u64, tick, 0),
+        Record::RegRead { regnum, contents } => with_bytes(REG_READ, regnum.0 as u64, contents),
+        Record::RegWrite { regnum, contents } => with_bytes(REG_WRITE, regnum.0 as u64, contents),
         Record::RegWriteNative { regnum, contents } => with_bytes(
-            types::REG_WRITE_NATIVE,
+            REG_WRITE_NATIVE,
             regnum.0 as u64,
             contents,
         ),
-        Record::MemRead { address, contents } => with_bytes(types::MEM_READ, address, contents),
-        Record::MemWrite { address, contents } => with_bytes(types::MEM_WRITE, address, contents),
+        Record::MemRead { address, contents } => with_bytes(MEM_READ, address, contents),
+        Record::MemWrite { address, contents } => with_bytes(MEM_WRITE, address, contents),
     }
 }
 
-// struct aglimtaq_reading.
+// The numbers of struct aglimtaq_reading, in order.
 pub fn of_answer(position: usize, answer: Answer) -> [u64; 11]
     ensures { λ r. ⌜ r ≡ flatAnswer position answer ⌝ }
 {

@@ -1,5 +1,5 @@
-// The numbers of the record types for C: enum aglimtaq_type, in the source's order. A type that joins later gets the next
-// number.
+// The numbers of the record types for C, each named here once: enum aglimtaq_type of include/trace.h, in the source's
+// order. A type that is added later gets the next number.
 pub const MAGIC: u64 = 1;
 
 pub const ARCH: u64 = 2;

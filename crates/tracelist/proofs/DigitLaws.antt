@@ -5,7 +5,7 @@ use native.Mathlib.Nat.{pow-le-pow-right}
 use native.Mathlib.Omega.{arith}
 use Rattle.io.specs.Digits.{Fewest}
 
--- a number below the power of so many digits takes no more of them
+-- a number below b ^ m takes at most m digits in base b
 pub digits-most : (b least n k m : ℕ) → 0 < b → least ≤ m → n < b ^ m → Fewest b least n k → k ≤ m
 digits-most b least n k m some h less f =
     elim (decLe k m) [

@@ -1,4 +1,4 @@
--- A record's line is of a record that starts at the place, has bytes, and ends within the trace. Assumes nothing.
+-- A record's line is of a record that starts at the offset, has bytes, and ends within the trace. Assumes nothing.
 use mathlib.Core.Path.{_≡_}
 use mathlib.Core.List.{List}
 use Prim.Native.Nat.{ℕ, _+_, _≤_, _<_}

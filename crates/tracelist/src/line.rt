@@ -35,7 +35,7 @@ fn record_line(heads: &[u16; 256], s: &[u8], start: usize, end: usize, number: u
     }
 }
 
-// The line of what stands at a place of the trace.
+// The line of what is at an offset of the trace.
 pub fn line_at(heads: &[u16; 256], s: &[u8], at: usize) -> Line
     requires { ⌜ now heads ≡ entries ⌝ }
     ensures { λ r. ⌜ r ≡ lineOf (now (s .entry)) at ⌝ }

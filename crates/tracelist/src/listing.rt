@@ -1,4 +1,4 @@
-// The listing of a trace, line by line, written by large pieces.
+// The listing of a trace, line by line, written in large pieces.
 ghost use mathlib.Core.Path.{_≡_};
 ghost use Prim.Native.Nat.{_+_, _≤_};
 ghost use lib.ListN.{length};
@@ -9,14 +9,14 @@ use crate::text::put_line;
 use frames::head::heads;
 use libc::STDOUT_FILENO;
 
-// What the buffer holds, written.
+// Writes what the buffer holds.
 fn write_held(out: &[u8], held: usize)
     requires { ⌜ held ≤ length (now out) ⌝ }
 {
     io::write_all(STDOUT_FILENO, &out[..held]);
 }
 
-// Room for a line behind what the buffer holds: where there is none, what it holds is written first.
+// Makes room for a line after what the buffer holds. Where there is none, what it holds is written first.
 fn with_room(out: &[u8], held: usize) -> usize
     requires { ⌜ (96 ≤ length (now out)) × (held ≤ length (now out)) ⌝ }
     ensures { λ r. ⌜ r + 96 ≤ length (now (out .entry)) ⌝ }
@@ -28,7 +28,7 @@ fn with_room(out: &[u8], held: usize) -> usize
     0
 }
 
-// The lines of s, by way of a buffer.
+// The lines of s, collected in a buffer.
 fn list_by(out: &mut [u8], s: &[u8])
     requires { ⌜ 96 ≤ length (now out) ⌝ }
 {

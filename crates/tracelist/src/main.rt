@@ -1,5 +1,4 @@
-// Lists the records of a trace: document 01, "Listing". The trace is read from standard input, 65,536
-// bytes at most.
+// Lists the records of a trace: document 01, "Listing". The trace is read from standard input, 65,536 bytes at most.
 mod line;
 mod listing;
 mod text;

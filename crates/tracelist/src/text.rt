@@ -1,5 +1,5 @@
-// Numbers and words put into a buffer, one behind the other. Each function takes the place where it
-// puts its text and hands back the place behind it.
+// Numbers and words put into a buffer, one after the other. Each function takes the offset where it puts its text, and
+// hands back the offset after it.
 ghost use mathlib.Core.Path.{_≡_};
 ghost use Prim.Native.Nat.{_+_, _≤_};
 ghost use lib.ListN.{length};
@@ -18,7 +18,7 @@ fn put_word(out: &mut [u8], at: usize, word: &[u8]) -> usize
     at + word.len()
 }
 
-// A number in decimal digits, and a byte behind it.
+// A number in decimal digits, and a byte after it.
 fn put_number(out: &mut [u8], at: usize, n: usize, behind: u8) -> usize
     requires { ⌜ at + 21 ≤ length (now out) ⌝ }
     ensures { λ r. ⌜ (r ≤ at + 21) × (length (now (out .exit)) ≡ length (now (out .entry))) ⌝ }
@@ -30,7 +30,7 @@ fn put_number(out: &mut [u8], at: usize, n: usize, behind: u8) -> usize
     end + 1
 }
 
-// A byte in two hexadecimal digits, and a space behind it.
+// A byte in two hexadecimal digits, and a space after it.
 fn put_kind(out: &mut [u8], at: usize, kind: u8) -> usize
     requires { ⌜ at + 17 ≤ length (now out) ⌝ }
     ensures { λ r. ⌜ (r ≤ at + 17) × (length (now (out .exit)) ≡ length (now (out .entry))) ⌝ }

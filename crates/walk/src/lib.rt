@@ -1,5 +1,5 @@
-// Whole traces: how many frames there are, whatever they hold; and a walk that reads them all, and tells how many records
-// are shown, how many are refused by number, and how many bytes stand in records of each kind.
+// Whole traces. `count` counts the frames, whatever they hold. `walk` reads every record and counts how many are shown, how
+// many are refused with each number, and the bytes of each kind.
 pub mod count;
 mod step;
 pub mod walk;

@@ -1,4 +1,4 @@
--- `kept_answers::input::decimal` is safe and ends: the place grows to the end of the line.
+-- `kept_answers::input::decimal` is safe and ends: the offset grows up to the end of the line.
 -- Assumes nothing.
 use Prim.Native.Nat.{_-_, _≤_}
 use borrow.Author.Needs.{needs}

@@ -1,4 +1,4 @@
--- `kept_answers::input::wide_number` is safe and ends: the place grows to the end of the line.
+-- `kept_answers::input::wide_number` is safe and ends: the offset grows up to the end of the line.
 -- Assumes nothing.
 use Prim.Native.Nat.{_-_, _≤_}
 use lib.ListN.{length}

@@ -1,4 +1,4 @@
--- `kept_answers::lines::line_end` is safe and ends: the place grows to the end of the text.
+-- `kept_answers::lines::line_end` is safe and ends: the offset grows up to the end of the text.
 -- Assumes nothing.
 use Prim.Native.Nat.{_-_, _≤_}
 use borrow.Author.Needs.{needs}

@@ -1,4 +1,4 @@
--- `numbers::copy::copy` meets its contract: a slice copied to the start of the buffer's rest is spliced in at that place.
+-- `numbers::copy::copy` meets its contract: a slice copied to the start of the buffer's rest is spliced in at that offset.
 -- Assumes nothing.
 use borrow.Author.Needs.{needs}
 use lib.Seq.{take-length}

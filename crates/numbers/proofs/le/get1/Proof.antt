@@ -1,4 +1,4 @@
--- `numbers::le::get1` meets its contract: the byte at a place is the number in that one byte.
+-- `numbers::le::get1` meets its contract: the byte at an offset is the number in that one byte.
 -- Assumes nothing.
 use mathlib.Core.Path.{sym}
 use native.Mathlib.Omega.{arith}

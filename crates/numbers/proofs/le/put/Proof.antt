@@ -1,4 +1,4 @@
--- `numbers::le::put` meets its contract: each arm's writer ensures it at the width that the arm matched, of the number within that width.
+-- `numbers::le::put` meets its contract: each arm calls the writer of its width, with the number cut to that width.
 -- Assumes nothing.
 use mathlib.Core.Path.{ap, _∙_}
 use borrow.Author.Needs.{needs}

@@ -1,4 +1,4 @@
--- `numbers::le::put_each` meets its contract. The loop's invariant: what is left to write, written, makes the buffer that is promised.
+-- `numbers::le::put_each` meets its contract. The loop's invariant: writing what is left gives the promised buffer.
 -- Assumes nothing.
 use mathlib.Core.Path.{_≡_, refl, sym, ap, _∙_}
 use Prim.Native.Nat.{ℕ, _+_, _-_, _<_}

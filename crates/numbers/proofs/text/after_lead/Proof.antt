@@ -1,4 +1,4 @@
--- `numbers::text::after_lead` meets its contract: each class asks for what its line has behind the lead byte.
+-- `numbers::text::after_lead` meets its contract: each class asks for what its line has after the lead byte.
 -- Assumes nothing.
 use mathlib.Core.Path.{_≡_, refl, sym}
 use mathlib.Core.Logic.{inl, inr, ⊎-elim}
@@ -11,7 +11,7 @@ use Rattle.numbers.specs.Text.{Line, lines, nothing, asksIn, asks}
 use Rattle.numbers.proofs.text.after_lead.Statement.{statement}
 use Rattle.numbers.proofs.text.after_lead.Tie as tie
 
--- a class behind the last line
+-- a class after that of the last line
 past : (ls : List Line) (k : ℕ) → length ls ≤ k → asksIn ls k ≡ nothing ∷ []
 unfolding asksIn
 past [] k h = refl

@@ -1,4 +1,4 @@
--- `numbers::text::highest` meets its contract. The loop's invariant: the highest of the bytes left and of the highest so far is the highest of all.
+-- `numbers::text::highest` meets its contract. The loop's invariant: the bytes left and the highest so far give the highest of all.
 -- Assumes nothing.
 use mathlib.Core.Path.{_≡_, refl, sym, ap, _∙_}
 use mathlib.Core.Logic.{⊎-elim}

@@ -1,4 +1,4 @@
--- `numbers::text::is_utf8` meets its contract. ASCII is text; the table's rule is one test, computed over all its entries.
+-- `numbers::text::is_utf8` meets its contract. ASCII is text; the lookup table's rule is one test, computed over all its entries.
 -- Assumes nothing.
 use mathlib.Core.Path.{refl, sym}
 use native.Mathlib.Omega.{arith}

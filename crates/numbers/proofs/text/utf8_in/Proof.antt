@@ -1,4 +1,4 @@
--- `numbers::text::utf8_in` meets its contract. The loop's invariant: the bytes left are text with what is awaited, exactly if all of them are text.
+-- `numbers::text::utf8_in` meets its contract. The loop's invariant: all bytes are text if and only if those left are, with what is awaited.
 -- Assumes nothing.
 use mathlib.Core.Path.{_≡_, refl, sym, ap, _∙_}
 use mathlib.Core.Bool.{_&&_}

@@ -1,4 +1,4 @@
--- `raw::plain::bytes` meets its contract: the walk of `Above.antt`, at `RawRecord::bytes`.
+-- `raw::plain::bytes` meets its contract: the proof of `Above.antt`, at `RawRecord::bytes`.
 -- Assumes nothing.
 use base.Logic.{id⊢}
 use mir.Syntax.{named, imm, w8, tyInt, tyRef}

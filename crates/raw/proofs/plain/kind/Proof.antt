@@ -1,4 +1,4 @@
--- `raw::plain::kind` meets its contract: the walk of `Above.antt`, at `RawRecord::kind`.
+-- `raw::plain::kind` meets its contract: the proof of `Above.antt`, at `RawRecord::kind`.
 -- Assumes nothing.
 use base.Logic.{id⊢}
 use denote.Enum.Laws as EL

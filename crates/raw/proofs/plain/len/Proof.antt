@@ -1,4 +1,4 @@
--- `raw::plain::len` meets its contract: the walk of `Above.antt`, at `RawRecord::len`.
+-- `raw::plain::len` meets its contract: the proof of `Above.antt`, at `RawRecord::len`.
 -- Assumes nothing.
 use base.Logic.{id⊢}
 use mir.Syntax.{w64, tyInt}

@@ -1,4 +1,4 @@
--- `raw::plain::parse` meets its contract: the walk of `Above.antt`, at `RawRecord::parse`.
+-- `raw::plain::parse` meets its contract: the proof of `Above.antt`, at `RawRecord::parse`.
 -- Assumes nothing.
 use base.Logic.{id⊢}
 use denote.Enum.Laws as EL

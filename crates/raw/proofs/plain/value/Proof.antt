@@ -1,4 +1,4 @@
--- `raw::plain::value` meets its contract: the walk of `Above.antt`, at `RawRecord::value`.
+-- `raw::plain::value` meets its contract: the proof of `Above.antt`, at `RawRecord::value`.
 -- Assumes nothing.
 use base.Logic.{id⊢}
 use denote.Enum.Laws as EL

@@ -1,4 +1,4 @@
--- `trace_c::fields::of_file_meta` meets its contract, a line a type.
+-- `trace_c::fields::of_file_meta` meets its contract: a line for each type.
 -- Assumes nothing.
 use borrow.Author.Needs.{needs}
 use Rattle.trace_c.specs.Fields.{fileMetaFields}

@@ -1,4 +1,4 @@
--- `trace_c::fields::of_parsed` meets its contract, a line an answer.
+-- `trace_c::fields::of_parsed` meets its contract: a line for each answer.
 -- Assumes nothing.
 use borrow.Author.Needs.{needs}
 use Rattle.trace_c.specs.Fields.{numbersOf, flatParsed}

@@ -1,4 +1,4 @@
--- `trace_c::given::build_meta` meets its contract, a line a type.
+-- `trace_c::given::build_meta` meets its contract: a line for each type.
 -- Assumes nothing.
 use borrow.Author.Needs.{needs}
 use borrow.Author.Tests.{ne-eqb}

@@ -1,4 +1,4 @@
--- `trace_c::given::fits` meets its contract, a line a type.
+-- `trace_c::given::fits` meets its contract: a line for each type.
 -- Assumes nothing.
 use borrow.Author.Tests.{ne-eqb}
 use Rattle.trace_c.specs.Given.{fitting}

@@ -11,7 +11,7 @@ use Rattle.trace_c.specs.Records.{given, verdictNumber, writtenNumber, w
 use Rattle.trace_c.proofs.write.aglimtaq_write.Statement.{statement}
 use Rattle.trace_c.proofs.write.aglimtaq_write.Tie as tie
 
--- what is written from a position, said of the offset that it stands for
+-- what is written from a position, said of an equal position
 from-place : (lent : ℕ) {p q : Position} (r : Rec) {w : Written} → w ≡ written lent p r → p ≡ q → w ≡ written lent q r
 from-place lent r e h = e ∙ ap (λ (x : Position). written lent x r) h
 

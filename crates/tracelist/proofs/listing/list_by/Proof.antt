@@ -1,4 +1,4 @@
--- `tracelist::listing::list_by` is safe and ends: each record's line lies ahead of the place, and each line fits.
+-- `tracelist::listing::list_by` is safe and ends: each listed record starts at the offset and moves it on, and each line fits.
 -- Assumes nothing.
 use mathlib.Core.Path.{_≡_, refl, sym, subst, _∙_}
 use mathlib.Core.Bool.{cond}
@@ -34,7 +34,7 @@ put-line-requires c κs = c .before .with-room .ensures
 enum-known-line : tie.Need-enum-known-line Inv-loop μ-loop
 enum-known-line c = search needs
 
--- a record's line lies ahead of the place
+-- a listed record starts at the offset, has bytes, and ends within the trace
 ahead :
     (c : tie.After-known-told Inv-loop μ-loop)
     → (c .before .line .given .0 .0 ≡ c .before .before .before .before .before .before .before .before .before .before .before .before .loop .at)

@@ -1,4 +1,4 @@
--- `tracelist::text::put_kind` keeps to its room: a byte takes no more than the digits' buffer has.
+-- `tracelist::text::put_kind` keeps to its room: a byte takes no more digits than their buffer has.
 -- Assumes nothing.
 use mathlib.Core.Path.{_∙_}
 use Prim.Native.Nat.{_≤_}
