@@ -1,7 +1,8 @@
 // The ride once more, with errors that were made in the store: five bytes are others, and the end is lost.
 // Every length is as it was, so each error costs one record. Places are the ride's.
 use crate::ride::ride;
-use crate::steps::REFUSED;
+use records::position::Position;
+use records::position::Written;
 
 // One byte altered; outside of the buffer none.
 fn spoil(out: &mut [u8], at: usize, byte: u8) {
@@ -21,12 +22,23 @@ fn spoil_all(out: &mut [u8]) {
     spoil(out, 648, 0x00);
 }
 
-// Of the last record, which has 19 bytes, eight are left.
-pub(crate) fn damaged(out: &mut [u8]) -> usize {
-    let end = ride(out);
-    spoil_all(out);
-    if end < 11 {
-        return REFUSED;
+// A trace without its last n bytes; one that is shorter is left as it is.
+fn cut(w: Written, n: usize) -> Written {
+    let position = w.position;
+    let verdict = w.verdict;
+    let end = position.at;
+    if end < n {
+        return w;
     }
-    end - 11
+    Written {
+        position: Position::at(end - n),
+        verdict,
+    }
+}
+
+// Of the last record, which has 19 bytes, eight are left.
+pub(crate) fn damaged(out: &mut [u8]) -> Written {
+    let w = ride(out);
+    spoil_all(out);
+    cut(w, 11)
 }

@@ -1,0 +1,64 @@
+// Records put one after the other, each at the position that the call before handed back. After a refusal
+// nothing is put, and the refusal is handed on.
+use numbers::copy::copy;
+use records::judge::Verdict;
+use records::new_record::NewMeta;
+use records::new_record::NewRecord;
+use records::position::Position;
+use records::position::Written;
+use records::refusal::BEYOND_END;
+use records::refusal::NO_ROOM;
+
+// A trace without records.
+pub(crate) fn empty() -> Written {
+    Written {
+        position: Position::at(0),
+        verdict: Verdict::Accepted,
+    }
+}
+
+// A record with its name, register list or contents, if it has any.
+pub(crate) fn put(out: &mut [u8], before: Written, new: NewRecord, bytes: &[u8]) -> Written {
+    let position = before.position;
+    let verdict = before.verdict;
+    match verdict {
+        Verdict::Accepted => position.write(out, new, bytes),
+        Verdict::Refused(_) => before,
+    }
+}
+
+// A Meta with its name or contents, if it has any.
+pub(crate) fn put_meta(out: &mut [u8], before: Written, new: NewMeta, bytes: &[u8]) -> Written {
+    put(out, before, NewRecord::Meta(new), bytes)
+}
+
+fn copied(out: &mut [u8], at: usize, s: &[u8]) -> Written {
+    let position = Position::at(at);
+    if at > out.len() {
+        return Written {
+            position,
+            verdict: Verdict::Refused(BEYOND_END),
+        };
+    }
+    if out.len() - at < s.len() {
+        return Written {
+            position,
+            verdict: Verdict::Refused(NO_ROOM),
+        };
+    }
+    copy(out, at, s);
+    Written {
+        position: Position::at(at + s.len()),
+        verdict: Verdict::Accepted,
+    }
+}
+
+// Bytes that the writer does not write.
+pub(crate) fn put_bytes(out: &mut [u8], before: Written, s: &[u8]) -> Written {
+    let position = before.position;
+    let verdict = before.verdict;
+    match verdict {
+        Verdict::Accepted => copied(out, position.at, s),
+        Verdict::Refused(_) => before,
+    }
+}
