@@ -5,8 +5,8 @@
  *
  * - It ends.
  * - It reads the bytes that it is lent and no others.
- * - It writes what its last argument points to, all of it at every call, and nothing else. Two write more:
- *   a walk writes its last three arguments, and aglimtaq_write writes a record into `out`.
+ * - It writes what its last argument points to, if that is a pointer: all of it at every call, and nothing else.
+ *   Two write more: a walk writes its last three arguments, and aglimtaq_write writes a record into `out`.
  *
  * A function allocates nothing and keeps nothing. It may run in several threads at once, each with a struct
  * and an output of its own.

@@ -1,4 +1,4 @@
-// What the programs of vectors, kept_answers and rawlist print with, to standard output.
+// What `vectors`, `kept_answers` and `rawlist` print with, to standard output.
 use libc::STDOUT_FILENO;
 
 pub fn text(s: &[u8]) {

@@ -39,8 +39,8 @@ fn answer_input(line: &[u8], bytes: &mut [u8]) {
     }
 }
 
-// A comment is printed as it is; a `w` asks for a record to be written. Any other line is an input, decoded into the lent
-// bytes.
+// A comment is printed as it is; a `w` asks for a record to be written. Any other line is an input, decoded into the
+// lent bytes.
 fn answer_line(line: &[u8], bytes: &mut [u8]) {
     if begins_with(line, b'#') {
         return print::text(line);

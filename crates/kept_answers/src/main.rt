@@ -1,6 +1,6 @@
 // Reads lines from standard input, 262,144 bytes at most, and prints this codec's answer to each: to an input, the walk
-// over it from 0 on; to a record, the bytes that are written. `stdin` has the lines, and `stdout` what the original Rust
-// answered to them. Their first lines say how they were made.
+// over it from 0 on; to a record, the bytes that are written. `stdin` has the lines, and `stdout` what the original
+// Rust answered to them. Their first lines say how they were made.
 mod answers;
 mod input;
 mod lines;

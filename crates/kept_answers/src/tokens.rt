@@ -1,5 +1,5 @@
-// Bytes as text: pairs of hexadecimal digits, `xx*N` for a byte that comes N times in a row, twelve or more, and `-` for no
-// bytes.
+// Bytes as text: pairs of hexadecimal digits, `xx*N` for a byte that comes N times in a row, twelve or more, and `-`
+// for no bytes.
 ghost use Prim.Native.Nat.{_+_, _≤_, _<_};
 ghost use lib.ListN.{length};
 use console::print;

@@ -131,14 +131,14 @@ splice-last d at s k w h reach inside low room =
     ∙ ap (λ (n : ℕ). splice d at (take n s)) all
     ∙ ap (splice d at) (take-length s)
 
--- the first w bytes of s and its last w, moved as numbers, are all of s if it has no more than twice w
+-- the first w bytes of s and its last w, moved as numbers, are all of s if it has at most 2 w bytes
 pub splice-ends : (d : List ℕ) (at : ℕ) (s : List ℕ) (w : ℕ) → Bytes s → w ≤ length s → length s ≤ w + w → at + length s ≤ length d
     → splice (splice d at (leBytes w (leValue (part s 0 w)))) (at + (length s - w)) (leBytes w (leValue (part s (length s - w) w)))
     ≡ splice d at s
 splice-ends d at s w h low high inside =
     rw (leBytes-part s 0 w h (omega arith)) (splice-last d at s w w h high low low (omega arith))
 
--- its first byte, its middle one and its last are all of s if it has no more than three
+-- its first byte, its middle one and its last are all of s if it has at most three
 pub splice-few : (d : List ℕ) (at : ℕ) (s : List ℕ) → Bytes s → 1 ≤ length s → length s ≤ 3 → at + length s ≤ length d
     → splice (splice (splice d at (leBytes 1 (leValue (part s 0 1)))) (at + length s / 2) (leBytes 1 (leValue (part s (length s / 2) 1)))) (at + (length s - 1)) (leBytes 1 (leValue (part s (length s - 1) 1)))
     ≡ splice d at s

@@ -5,8 +5,8 @@ use mathlib.Core.List.{List, _++_}
 use Prim.Native.Nat.{ℕ, _+_, _<_}
 use lib.ListN.{length, take, drop, getD}
 
--- every element is a byte; an element past the end counts as 0. It is said by index, as a proof has it of a slice's type; no contract asks
--- it of a caller
+-- every element is a byte; an element past the end counts as 0. It is stated by index, as a proof gets it from a slice's type; no contract
+-- asks it of a caller
 abbrev pub Bytes : List ℕ → Type 0
 Bytes xs = (i : ℕ) → getD xs i 0 < 256
 

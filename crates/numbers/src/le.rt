@@ -1,5 +1,6 @@
 // Numbers in bytes, least significant byte first, read and written at an offset of a slice. The caller makes sure that
-// the bytes lie within the slice. Two, four or eight bytes are two halves, which the compiler joins into one load or store.
+// the bytes lie within the slice. Two, four or eight bytes are two halves, which the compiler joins into one load or
+// store.
 ghost use mathlib.Core.Path.{_≡_};
 ghost use Prim.Native.Nat.{_+_, _≤_};
 ghost use lib.ListN.{length};
@@ -89,8 +90,8 @@ fn put_each(out: &mut [u8], at: usize, width: usize, value: u64)
     }
 }
 
-// A number in `width` bytes: zero bytes above it, and what does not fit is left out. There is no largest width: a name of
-// n bytes is filled up by the number 0 in 32 - n bytes.
+// A number in `width` bytes: zero bytes above it, and what does not fit is left out. There is no largest width: a name
+// of n bytes is filled up by the number 0 in 32 - n bytes.
 pub fn put(out: &mut [u8], at: usize, width: usize, value: u64)
     requires { ⌜ at + width ≤ length (now out) ⌝ }
     ensures { λ _. ⌜ now (out .exit) ≡ splice (now (out .entry)) at (leBytes width value) ⌝ }

@@ -4,8 +4,8 @@ ghost use Rattle.numbers.specs.Text.{asks, classOf, utf8};
 ghost use Rattle.numbers.specs.Inner.{awaited, Tabulates};
 ghost use Rattle.numbers.specs.Inner.{highestFrom};
 
-// What must follow the bytes so far: how many more bytes, and the lowest and the highest that the next may be. The others
-// are tails.
+// What must follow the bytes so far: how many more bytes, and the lowest and the highest that the next may be. The
+// others are tails.
 struct Awaited(u8, u8, u8);
 
 // What must follow a lead byte of a class. For a class that no line has, it is a range that holds no byte.
@@ -79,8 +79,8 @@ pub fn is_utf8(s: &[u8]) -> bool
     utf8_in(&classes, s)
 }
 
-// The class of each byte as a lead byte: the index of its line in RFC 3629's grammar, counted from 0, or 9 where it leads
-// no character.
+// The class of each byte as a lead byte: the index of its line in RFC 3629's grammar, counted from 0, or 9 where it
+// leads no character.
 const CLASSES: [u8; 256] = [
     0,
     0,

@@ -1,5 +1,5 @@
 // The ride once more, with errors that were made in the store: five bytes are others, and the end is lost.
-// Every length is as it was, so each error costs one record. Places are the ride's.
+// Every length is as it was, so each error costs one record. Offsets are the ride's.
 use crate::ride::ride;
 use records::position::Position;
 use records::position::Written;

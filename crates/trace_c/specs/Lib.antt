@@ -1,5 +1,5 @@
 pub mod Types
 pub mod Fields
 pub mod Given
-pub mod Flat
-pub mod Records
+pub mod Reading
+pub mod Writing

@@ -1,5 +1,5 @@
-// The functions that C and Rust call. include/trace.h explains the arguments and the numbers; a struct there is here the
-// array of its numbers.
+// The functions that C and Rust call. include/trace.h explains the arguments and the numbers; a struct there is here
+// the array of its numbers.
 pub mod fields;
 pub mod given;
 mod read;

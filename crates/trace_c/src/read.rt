@@ -4,7 +4,7 @@ ghost use Rattle.frames.specs.Frames.{needed, valueOf};
 ghost use Rattle.records.specs.Reading.{parseAt, nextName};
 ghost use Rattle.records.specs.Positions.{here, readNext, readPrevious};
 ghost use Rattle.trace_c.specs.Fields.{flatParsed};
-ghost use Rattle.trace_c.specs.Flat.{flatReading, flatContent, contentNumber, flatName, nameNumber};
+ghost use Rattle.trace_c.specs.Reading.{flatReading, flatContent, contentNumber, flatName, nameNumber};
 use crate::fields::of_answer;
 use crate::fields::of_parsed;
 use frames::read::Content;

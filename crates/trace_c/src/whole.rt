@@ -2,7 +2,7 @@
 ghost use mathlib.Core.Path.{_≡_};
 ghost use Rattle.walk.specs.Counts.{countOf};
 ghost use Rattle.walk.specs.Walks.{forth, back, countsOf, sizesOf, endOf};
-ghost use Rattle.trace_c.specs.Flat.{flatEnd};
+ghost use Rattle.trace_c.specs.Reading.{flatEnd};
 use walk::count::count;
 use walk::walk::walk;
 use walk::walk::walk_back;

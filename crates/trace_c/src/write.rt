@@ -1,7 +1,7 @@
 // Writing, by numbers and byte slices.
 ghost use mathlib.Core.Path.{_≡_};
 ghost use lib.ListN.{length};
-ghost use Rattle.trace_c.specs.Records.{given, verdictNumber, writtenNumber, writtenNext, writtenBytes};
+ghost use Rattle.trace_c.specs.Writing.{given, verdictNumber, writtenNumber, writtenNext, writtenBytes};
 use crate::given::Given;
 use crate::given::new_of;
 use records::judge::Verdict;

@@ -67,12 +67,12 @@ impl Answer {
         Self { answer: REFUSED, number, ..Self::default() }
     }
 
-    /// Whether the answer has a part of the bytes: no part with bytes starts at 0, where the first byte stands.
+    /// Whether the answer has a part of the bytes: no part starts at 0, where the record's first byte is.
     fn has_bytes(&self) -> bool {
         self.bytes_start > 0
     }
 
-    /// The answer where the bytes stand at `base` in a trace.
+    /// The answer where the bytes begin at offset `base` of a trace.
     pub fn at(mut self, base: u64) -> Self {
         if self.has_bytes() {
             self.bytes_start += base;

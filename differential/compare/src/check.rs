@@ -25,8 +25,8 @@ pub fn check(bytes: &[u8], tally: &mut Tally) {
     tally.end(bytes);
 }
 
-/// From record to record, each call at the position that ours handed back, up to the first difference; by turns also
-/// back from there. What the calls add up to is held against the one call that walks over all.
+/// From record to record, each call at the position that ours handed back, up to the first difference; half the time
+/// also back from there. The sum of the calls is compared with the one call that walks over all.
 fn walk(bytes: &[u8], tally: &mut Tally) {
     let (mut position, mut adding) = (0, Adding::new());
     loop {
@@ -50,8 +50,8 @@ fn walk(bytes: &[u8], tally: &mut Tally) {
     tally.hold("walk", 0, &adding.said(), &ours::walk(bytes));
 }
 
-/// From the end on backwards, each call at the position that ours handed back, and what they add up to; and at any
-/// position.
+/// Backwards from the end, each call at the position that the one before must hand back, and the sum of the calls; then
+/// once at any position.
 fn walk_back(bytes: &[u8], tally: &mut Tally) {
     let (mut position, mut adding) = (bytes.len(), Adding::new());
     for _ in 0..BACK {
@@ -66,7 +66,7 @@ fn walk_back(bytes: &[u8], tally: &mut Tally) {
     previous(bytes, any, tally);
 }
 
-/// The record that ends at `position`: what must be answered, and ours is held against.
+/// The record that ends at `position`: what must be answered, compared with ours.
 fn previous(bytes: &[u8], position: usize, tally: &mut Tally) -> Said<Answer> {
     let (what, at) = ("read_previous, position", position as u64);
     let ours = ours::read_previous(bytes, position);
@@ -103,7 +103,7 @@ fn names(bytes: &[u8], map: &Answer, tally: &mut Tally) {
     }
 }
 
-/// The bytes as they are, whether or not they are one frame: at base 0, and at another by turns.
+/// The bytes as they are, whether or not they are one frame: at base 0, and at another base.
 fn parse(bytes: &[u8], tally: &mut Tally) {
     let Said { says, outside } = source::parse(bytes);
     let room = LAST - bytes.len() as u64;
@@ -113,7 +113,7 @@ fn parse(bytes: &[u8], tally: &mut Tally) {
     }
 }
 
-/// A position or a base that is too large, by turns.
+/// A position or a base that is too large, chosen at random.
 fn beyond(bytes: &[u8], tally: &mut Tally) {
     let refused = Answer::refused(BEYOND_END);
     let length = bytes.len() as u64;

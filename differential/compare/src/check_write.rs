@@ -15,7 +15,7 @@ const LAST: usize = usize::MAX;
 /// How many bytes, which are not lent, lie on each side of the output.
 const AROUND: usize = 16;
 
-/// The row where there is room for it, and where there is not.
+/// The row, once where there is room for it, and once where there is not.
 pub fn check(row: &[Given], tally: &mut Tally) {
     let length = row.iter().map(length).sum();
     let position = tally.turn(&[0, 0, 1, 21]);
@@ -25,7 +25,7 @@ pub fn check(row: &[Given], tally: &mut Tally) {
     write_row(row, position, room, tally);
 }
 
-/// The length of a record as the original emits it; of one that is refused, more than it would have.
+/// The length of a record as the original emits it; for one that is refused, more than it would have.
 fn length(given: &Given) -> usize {
     let mut emitted = Vec::new();
     match emit(given, &mut emitted).outside {
@@ -34,8 +34,8 @@ fn length(given: &Given) -> usize {
     }
 }
 
-/// A position and a room, by turns: one byte is missing; some are; the position is the end; nothing is lent; the position
-/// is beyond the end.
+/// A position and a room, at random: one byte is missing; several are; the position is the end; nothing is lent; the
+/// position is beyond the end.
 fn too_little(position: usize, length: usize, tally: &mut Tally) -> (usize, usize) {
     let some = tally.random().below(length);
     let less = (position, position + length - 1);
@@ -68,9 +68,9 @@ fn write_row(row: &[Given], mut position: usize, room: usize, tally: &mut Tally)
 
 struct Output {
     room: usize,
-    /// The original's output: what stood before the first position, and what it emitted.
+    /// The original's output: what was before the first position, and what it emitted.
     trace: Vec<u8>,
-    /// What must stand in ours, with the bytes around it; and what does.
+    /// What ours must hold, with the bytes around it; and what it holds.
     must: Vec<u8>,
     now: Vec<u8>,
 }
@@ -93,7 +93,7 @@ impl Output {
             assert!(source::start(&self.trace, next) == Ok(position), "a trailer that leads elsewhere");
             let place = AROUND + position..AROUND + next;
             self.must[place.clone()].copy_from_slice(frame);
-            // Before the call, every byte is another than the one to be written.
+            // Before the call, every byte differs from the one to be written.
             self.now[place].iter_mut().zip(frame).for_each(|(now, byte)| *now = !byte);
         }
         let mut record = given.record;

@@ -6,7 +6,7 @@ use crate::random::Random;
 /// How many bytes each tag of Meta takes.
 pub const META_NEEDS: [usize; 12] = [8, 4, 8, 40, 0, 8, 0, 8, 4, 12, 12, 20];
 
-/// How many content bytes a kind takes; of Meta and FileMeta, the tag and what comes close behind it.
+/// How many content bytes a kind takes; for Meta and FileMeta, the tag and the byte after it.
 pub fn need(kind: u8) -> usize {
     match kind {
         MAP | INSTRUCTION | PC | MEM_READ | MEM_WRITE => 8,
@@ -55,7 +55,7 @@ fn unknown(random: &mut Random, first: usize, out: &mut Vec<u8>) {
     random.bytes(count, out);
 }
 
-/// Numbers in `count` bytes altogether, small ones more often than equal chances would give.
+/// Numbers in `count` bytes altogether, small ones more often than a uniform choice would give.
 fn numbers(random: &mut Random, count: usize, out: &mut Vec<u8>) {
     let end = out.len() + count;
     while out.len() < end {
@@ -100,7 +100,7 @@ pub fn entry(random: &mut Random, out: &mut Vec<u8>) {
     random.bytes(length, out);
 }
 
-/// Mostly short, now and then about the border of one length byte.
+/// Mostly short, sometimes about the limit of one length byte.
 pub fn size(random: &mut Random) -> usize {
     match random.below(60) {
         0 => 230 + random.below(30),

@@ -27,13 +27,13 @@ pub fn damage(random: &mut Random, other: &[u8], bytes: &mut Vec<u8>) {
     }
 }
 
-/// From `place` on, the other trace's bytes from some place of its own.
+/// From `place` on, the other trace's bytes, from some offset of its own.
 fn splice(random: &mut Random, other: &[u8], place: usize, bytes: &mut Vec<u8>) {
     bytes.truncate(place);
     bytes.extend_from_slice(&other[random.below(other.len() + 1)..]);
 }
 
-/// Two pieces change places: the one up to `place`, and one behind it.
+/// Exchanges two pieces: the one up to `place`, and one after it.
 fn swap(random: &mut Random, place: usize, bytes: &mut [u8]) {
     let end = place + random.below(bytes.len() - place + 1);
     let start = random.below(place + 1);

@@ -20,7 +20,7 @@ impl Given {
         Type::find(self.record.record_type).filter(|kind| kind.fits(self.record.numbers))
     }
 
-    /// A record that is accepted, with so many bytes; a name has at most 32.
+    /// A record that is accepted, with `length` bytes; a name has at most 32.
     pub fn good(random: &mut Random, kind: &Type, length: usize) -> Self {
         let mut numbers = numbers(random, kind);
         let mut bytes = Vec::new();
@@ -42,8 +42,8 @@ impl Given {
     }
 }
 
-/// Numbers that fit, small ones more often than equal chances would give. Those that the type does not have are 0
-/// or, once in four, anything.
+/// Numbers that fit, small ones more often than a uniform choice would give. Those that the type does not have are 0
+/// or, once in four, random.
 pub fn numbers(random: &mut Random, kind: &Type) -> [u64; 3] {
     let mut numbers = if random.once_in(4) { [0; 3].map(|_| random.number()) } else { [0; 3] };
     for (number, &bits) in numbers.iter_mut().zip(kind.bits) {
@@ -68,7 +68,7 @@ pub fn name(random: &mut Random, length: usize) -> Vec<u8> {
     name.into_bytes()
 }
 
-/// A register list of exactly `length` bytes, with bytes behind its entries; the count that is stated, which may be
+/// A register list of exactly `length` bytes, with bytes after its entries; and the count that is stated, which may be
 /// smaller.
 fn list(random: &mut Random, length: usize, out: &mut Vec<u8>) -> u64 {
     let mut count = 0;
@@ -84,7 +84,7 @@ fn list(random: &mut Random, length: usize, out: &mut Vec<u8>) -> u64 {
     random.pick(&[count, count, fewer]) as u64
 }
 
-/// The whole entries that stand at the front of `list`, and what is behind them.
+/// The whole entries at the front of `list`, and what follows them.
 pub fn entries(mut list: &[u8]) -> (Vec<(u16, &[u8])>, &[u8]) {
     let mut entries = Vec::new();
     while let [a, b, length, rest @ ..] = list {

@@ -2,7 +2,7 @@
 
 use std::fmt::Write;
 
-/// A byte that stands so many times in a row is written once.
+/// From this many times in a row on, a byte is written as `xx*N`.
 const RUN: usize = 12;
 
 pub fn tokens(bytes: &[u8]) -> String {

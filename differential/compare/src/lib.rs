@@ -1,5 +1,5 @@
-//! What both programs of this package share: the original's answers, and the inputs. The program `compare` holds
-//! the proved codec against them; the program `keep` writes them down.
+//! What both programs of this package share: the original's answers, and the inputs. The program `compare` compares
+//! the proved codec with them; the program `keep` writes them to files.
 
 pub mod answer;
 pub mod classes;

@@ -56,7 +56,7 @@ fn foreign(random: &mut Random, length: usize) -> Vec<u8> {
     bytes
 }
 
-/// At the border of what is listed, and beyond.
+/// At the largest length that is listed, and beyond.
 fn large(random: &mut Random, one: &mut dyn FnMut(&[u8])) {
     let mut shown = Vec::new();
     while shown.len() <= MOST {
@@ -71,7 +71,7 @@ fn large(random: &mut Random, one: &mut dyn FnMut(&[u8])) {
     one(&[0; 3 * MOST]);
 }
 
-/// What document 01 says is printed, of what the original answers.
+/// What must be printed, by document 01, for what the original answers.
 fn text(bytes: &[u8]) -> Said<String> {
     let mut says = String::new();
     let mut outside: Option<Outside> = None;
@@ -106,7 +106,7 @@ fn printed(program: &Path, bytes: &[u8], most: usize) -> String {
     let mut stdin = child.stdin.take().expect("a pipe");
     let stdout = child.stdout.take().expect("a pipe");
     let bytes = bytes.to_vec();
-    // It may end before it has read everything; what it printed is judged, not that.
+    // It may end before it has read everything; only what it printed is compared.
     let writer = std::thread::spawn(move || drop(stdin.write_all(&bytes)));
     let mut text = Vec::new();
     stdout.take(most as u64).read_to_end(&mut text).expect("the listing is read");

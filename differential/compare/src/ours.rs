@@ -25,7 +25,7 @@ extern "C" {
     ) -> u64;
 }
 
-/// What every field holds before a call, so that one which is not written is seen.
+/// What every field holds before a call, so that a field which is not written is noticed.
 const UNWRITTEN: u64 = 0xa5a5_a5a5_a5a5_a5a5;
 
 fn unwritten() -> Answer {

@@ -1,4 +1,4 @@
-//! Panics of the original are caught and make no noise; those of this program are loud as ever.
+//! Panics of the original are caught and print nothing; those of this program are reported as usual.
 
 use std::cell::Cell;
 use std::panic::{catch_unwind, set_hook, take_hook, AssertUnwindSafe};

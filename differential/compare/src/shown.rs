@@ -47,7 +47,7 @@ fn meta(bytes: &[u8], meta: &Meta) -> Answer {
     }
 }
 
-/// The original copies the name. It stands behind the tag, and the bytes there must be its own.
+/// The original copies the name. It comes after the tag, and the bytes there must be the same.
 fn call_begin(bytes: &[u8], record: &CallBegin) -> Answer {
     let content = RawRecord::new(bytes).value().expect("a content");
     let name = &content[1..1 + record.name().len()];
@@ -55,7 +55,7 @@ fn call_begin(bytes: &[u8], record: &CallBegin) -> Answer {
     Answer::with_bytes(12, record.address(), place(bytes, name))
 }
 
-/// The original has no accessors for the count and the list, but hands both, in place, to a hasher.
+/// The original has no accessors for the count and the list, but hands both to a hasher, without a copy.
 fn register_list(bytes: &[u8], record: &RegisterNameMap) -> Answer {
     let mut seen = Seen { bytes, count: None, list: None };
     record.hash(&mut seen);

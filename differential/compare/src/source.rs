@@ -24,7 +24,7 @@ pub enum Outside {
     Span,
     /// It panics: RegWriteNative with one content byte.
     Native,
-    /// It panics: Meta 3, 9, 10 and 11 with too few bytes behind the tag.
+    /// It panics: Meta 3, 9, 10 and 11 with too few bytes after the tag.
     CallBegin,
     Allocated,
     Freed,
@@ -39,7 +39,7 @@ pub enum Outside {
     Tag,
     List,
     NotARecord,
-    /// It panics, or writes, where nobody foresaw it. This counts as a difference.
+    /// It panics, or writes, in any other case. This counts as a difference.
     Unforeseen,
 }
 
@@ -86,7 +86,7 @@ pub fn parse(bytes: &[u8]) -> Said<Answer> {
     }
 }
 
-/// What stands at `position`.
+/// What is at `position`.
 pub fn next(bytes: &[u8], position: usize) -> Said<Answer> {
     let rest = &bytes[position..];
     let start = position as u64;
@@ -106,8 +106,8 @@ pub fn previous(bytes: &[u8], start: usize, position: usize) -> Said<Answer> {
     Said { says: says.framed_back(start as u64, (position - start) as u64), outside }
 }
 
-/// Where the record starts that ends at `position`, or why there is none. The original has nothing of the kind;
-/// this is document 01's rule.
+/// Where the record starts that ends at `position`, or why there is none. The original has no such function; this is
+/// document 01's rule.
 pub fn start(bytes: &[u8], position: usize) -> Result<usize, Answer> {
     let Some(&last) = bytes[..position].last() else {
         return Err(Answer::last(FINISHED, 0, 0));
@@ -122,7 +122,7 @@ pub fn start(bytes: &[u8], position: usize) -> Result<usize, Answer> {
     found.ok_or(Answer::last(REFUSED, position as u64, NO_START))
 }
 
-/// The names of the register list that `record` holds, placed within the list, which starts at `list` in `record`.
+/// The names of the register list that starts at offset `list` of `record`, by their offsets in the list.
 pub fn names(record: &[u8], list: usize) -> Vec<Entry> {
     let Ok(Record::FileMeta(FileMeta::RegisterNameMap(map))) = RawRecord::new(record).parse(parse_le64)
     else {

@@ -6,7 +6,7 @@ use compare::source::{Outside, Said};
 use std::fmt::{Debug, Display};
 use std::hint::black_box;
 
-/// How a reason for lying outside the domain is called in the report.
+/// What a reason for lying outside the domain is called in the report.
 const REASONS: [(Outside, &str); 16] = [
     (Outside::Empty, "no bytes"),
     (Outside::Span, "short span"),
@@ -34,13 +34,13 @@ pub struct Tally {
     inputs: u64,
     /// Inputs outside the domain, by the first reason found in them.
     reasons: [u64; REASONS.len()],
-    /// Answers of the original that ours was held against.
+    /// Answers of the original that ours was compared with.
     compared: u64,
     /// Answers of ours in reading backwards that frame no record: the original has no calls for them.
     unframed: u64,
-    /// Answers of ours outside the domain, held against what document 01 defines there.
+    /// Answers of ours outside the domain, compared with what document 01 defines there.
     outside: u64,
-    /// Answers of ours to a place beyond the end, which the original has no calls for.
+    /// Answers of ours to an offset beyond the end, which the original has no calls for.
     beyond: u64,
     differences: u64,
     first: Option<String>,
@@ -58,17 +58,17 @@ impl Tally {
         self.reason = None;
     }
 
-    /// One of several.
+    /// One of several values, chosen at random.
     pub fn turn<T: Copy>(&mut self, of: &[T]) -> T {
         self.random.pick(of)
     }
 
-    /// For what is not one of a few.
+    /// For a choice that is not one of a few.
     pub fn random(&mut self) -> &mut Random {
         &mut self.random
     }
 
-    /// Ends it: nobody has altered the lent bytes.
+    /// Ends an input: the lent bytes must not have been altered.
     pub fn end(&mut self, bytes: &[u8]) {
         if self.input != black_box(bytes) {
             self.differ(&"the lent bytes", 0, ORIGINAL, &"unaltered", &"altered");
@@ -79,7 +79,7 @@ impl Tally {
         }
     }
 
-    /// Holds ours against what must be answered; false where they differ.
+    /// Compares ours with what must be answered; false where they differ.
     pub fn hold<T: PartialEq + Debug>(
         &mut self,
         what: impl Display,
@@ -107,7 +107,7 @@ impl Tally {
         self.equal(&what, at, ORIGINAL, says, ours)
     }
 
-    /// The same, at a place beyond the end.
+    /// The same, at an offset beyond the end.
     pub fn beyond<T: PartialEq + Debug>(&mut self, what: &str, at: u64, says: &T, ours: &T) {
         self.beyond += 1;
         self.equal(&what, at, DOCUMENT, says, ours);

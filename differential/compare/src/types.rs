@@ -3,12 +3,12 @@
 /// What the bytes are that are handed over with a record.
 #[derive(Clone, Copy, PartialEq, Eq)]
 pub enum Slice {
-    /// Nothing: the type has none, and they are not looked at.
+    /// Nothing: the type has no bytes, and they are ignored.
     Ignored,
     Name,
     List,
     Contents,
-    /// The contents of an unknown type, whose tag is at least so much.
+    /// The contents of an unknown type, and the least tag that it may have.
     Unknown(u64),
 }
 
@@ -58,7 +58,7 @@ impl Type {
         TYPES.iter().find(|kind| kind.number == number)
     }
 
-    /// Whether the numbers that the type has fit their bits; the others are not looked at.
+    /// Whether the numbers that the type has fit their bits; the others are ignored.
     pub fn fits(&self, numbers: [u64; 3]) -> bool {
         self.bits.iter().zip(numbers).all(|(&bits, number)| bits == 64 || number >> bits == 0)
     }
@@ -68,7 +68,7 @@ impl Type {
         !matches!(self.slice, Slice::Ignored | Slice::Name)
     }
 
-    /// Of a type that grows, how many content bytes stand before those that are handed over.
+    /// For a type that grows, how many content bytes come before those that are handed over.
     pub fn head(&self) -> usize {
         let tag = usize::from(self.slice == Slice::List);
         tag + self.bits.iter().sum::<u32>() as usize / 8

@@ -1,4 +1,4 @@
-//! What a walk over a whole input adds up to, out of the answers to single calls.
+//! The sum of a walk over a whole input, from the answers to single calls.
 
 use compare::answer::{Answer, REFUSED, REFUSED_AT, SHOWN, UNFINISHED};
 use compare::source::{Outside, Said};

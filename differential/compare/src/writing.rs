@@ -20,8 +20,8 @@ const NOT_A_RECORD: u64 = 256;
 const LONGEST_CONTENT: usize = 65_530;
 const LONGEST_MAP: usize = 4_294_967_282;
 
-/// Writes at `position` of an output of `room` bytes: says 0, and the original's bytes are appended to `trace`; or the
-/// refusal, and nothing is.
+/// Writes at `position` of an output of `room` bytes. Says 0, and appends the original's bytes to `trace`; or says the
+/// refusal, and appends nothing.
 pub fn write(given: &Given, room: usize, position: usize, trace: &mut Vec<u8>) -> Said<u64> {
     let before = trace.len();
     let said = emit(given, trace);
@@ -95,7 +95,7 @@ fn original(given: &Given, out: &mut Vec<u8>) -> bool {
     }
 }
 
-/// The record as the original makes it. Unknown types, and lists that are more than their entries, it makes only by
+/// The record as the original makes it. It makes unknown types, and lists with bytes after their entries, only by
 /// reading them in `frame`.
 fn record<'a>(given: &'a Given, frame: &'a mut Vec<u8>) -> Option<Record<'a>> {
     let (tag, data) = (given.record.numbers[0] as u8, &given.bytes[..]);
@@ -107,7 +107,7 @@ fn record<'a>(given: &'a Given, frame: &'a mut Vec<u8>) -> Option<Record<'a>> {
     }
 }
 
-/// The record as a caller of the original makes it without reading; none where he cannot.
+/// The record as a caller of the original makes it without reading; none where that is not possible.
 pub fn made(record: FlatRecord, data: &[u8]) -> Option<Record<'_>> {
     let FlatRecord { record_type, numbers: [a, b, c] } = record;
     let record = match record_type {

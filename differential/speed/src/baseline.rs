@@ -3,7 +3,7 @@
 use crate::stage::{Stage, COUNT, END, KINDS, REFUSED};
 use std::hint::black_box;
 
-/// The parsed record is looked at where it lies and its counts are kept in registers: the original at its fastest.
+/// The original at its fastest: the parsed record is used where it lies, and the counts are kept in registers.
 macro_rules! reading {
     ($library:ident, $walk:ident, $calls:ident) => {
         #[no_mangle]

@@ -51,7 +51,7 @@ fn main() -> ExitCode {
     ExitCode::from(u8::from(missed > 0))
 }
 
-/// Makes all inputs, and has them used.
+/// Makes all inputs, and does the work on them.
 fn staged<T>(amount: Amount, work: impl FnOnce(&mut Stage) -> T) -> T {
     let trace = trace::trace(amount.trace);
     let plan = Plan::new(amount.records);
@@ -80,7 +80,7 @@ fn rounds() {
     })
 }
 
-/// The name of the race on so much of the trace.
+/// The name of the race on a part of the trace, in MiB.
 fn named(part: usize) -> String {
     format!("{part}_MiB")
 }

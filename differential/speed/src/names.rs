@@ -1,4 +1,4 @@
-//! Names of functions, to be held against UTF-8.
+//! Names of functions, to be checked for UTF-8.
 
 use compare::random::Random;
 
@@ -16,7 +16,7 @@ pub const FEW_OTHERS: usize = 3;
 pub const MOSTLY_OTHERS: usize = 4;
 pub const SETS: usize = 5;
 
-/// Names one behind the other, and where each starts and ends.
+/// Names one after the other, and where each starts and ends.
 pub struct Names {
     bytes: Vec<u8>,
     places: Vec<(usize, usize)>,
@@ -27,7 +27,8 @@ impl Names {
         let mut random = Random::default();
         let (mut bytes, mut places) = (Vec::new(), Vec::new());
         for _ in 0..count {
-            // A byte between them, and they start at every remainder by 8 in turn; else at 0, but for shorter ones.
+            // With a byte between them, names of 32 bytes start at each remainder by 8 in turn; without it, at
+            // remainder 0.
             bytes.extend((set == ASCII_ANYWHERE).then_some(b' '));
             let start = bytes.len();
             let length = if set == ASCII_SHORTER { 8 + random.below(24) } else { LENGTH };
@@ -52,7 +53,7 @@ fn others(random: &mut Random, set: usize) -> Vec<char> {
     }
 }
 
-/// A name of so many bytes: these characters, and ASCII anywhere between them.
+/// A name of `length` bytes: these characters, and ASCII anywhere between them.
 pub fn name(random: &mut Random, length: usize, others: &[char]) -> Vec<u8> {
     let mut name = others.to_vec();
     let others: usize = others.iter().map(|other| other.len_utf8()).sum();

@@ -1,5 +1,5 @@
-//! The rounds of several processes, put together: a side was seen to take 1.7 times as long in all rounds of one
-//! process as in those of the others.
+//! The rounds of several processes, put together, because one process can differ: in one, a side took 1.7 times as long
+//! in all rounds as in the others.
 
 use crate::stage::Size;
 use std::collections::BTreeMap;
@@ -23,7 +23,7 @@ pub struct Race {
 
 pub type Races = BTreeMap<String, Race>;
 
-/// Says what a process found, a line for each task: race, task, records or names, bytes, and the rounds.
+/// Prints what a process found, a line for each task: race, task, records or names, bytes, and the rounds.
 pub fn tell(race: &str, size: Size, rounds: &[Vec<u64>]) {
     for (task, rounds) in rounds.iter().enumerate() {
         let rounds: Vec<String> = rounds.iter().map(u64::to_string).collect();
@@ -31,7 +31,7 @@ pub fn tell(race: &str, size: Size, rounds: &[Vec<u64>]) {
     }
 }
 
-/// Has several processes of this program tell.
+/// Runs several processes of this program, and collects what they print.
 pub fn gather() -> Races {
     let mut races = Races::new();
     for _ in 0..PROCESSES {

@@ -4,7 +4,7 @@ use crate::stage::{Input, Stage, Tally, COUNT, END};
 use crate::tasks::Task;
 use std::time::{Duration, Instant};
 
-/// So many rounds at least, and more until so much time is spent.
+/// The least number of rounds; and the time until which more are done.
 pub const ROUNDS: usize = 3;
 const SPENT: Duration = Duration::from_millis(100);
 
@@ -28,8 +28,8 @@ fn once(stage: &mut Stage, task: &Task) -> Duration {
     begin.elapsed()
 }
 
-/// The round before all others, which is not counted: it warms caches. Every task must go through the whole input, and
-/// all that tally must find the same.
+/// The first round, which warms caches and is not counted. Every task must go through the whole input, and all that
+/// tally must find the same.
 fn agree(stage: &mut Stage, tasks: &[&Task], input: Input) {
     let size = stage.size(input);
     let mut first: Option<(Tally, &Task)> = None;

@@ -28,7 +28,7 @@ pub fn comparisons_head() {
     head(&["workload", "ours", "against", "theirs", "ratio", "of the fastest rounds", "target", "met"]);
 }
 
-/// A row for each that ours is held against; how many targets are missed.
+/// A row for each that ours is compared with; returns how many targets are missed.
 pub fn comparisons(workload: &Workload, race: &Race) -> usize {
     let (size, times, mut missed) = (race.size, race.times(), 0);
     let ours = times[0];
@@ -64,7 +64,7 @@ pub fn beside_copy(race: &Race) {
     }
 }
 
-/// The walks over ever more of the trace, each under its title.
+/// The walks over larger and larger parts of the trace, each under its title.
 pub fn growth(titles: &[String], races: &[&Race]) {
     let titles: Vec<&str> = std::iter::once("walk").chain(titles.iter().map(|title| &title[..])).collect();
     head(&titles);

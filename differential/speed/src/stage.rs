@@ -50,7 +50,7 @@ pub struct Stage<'a> {
 }
 
 impl<'a> Stage<'a> {
-    /// Both outputs have `room` bytes or more, all written here: so no task is the first to touch a page.
+    /// Both outputs have at least `room` bytes. All are written here, so that no task is the first to touch a page.
     pub fn new(
         trace: &'a [u8],
         given: &'a [Given<'a>],

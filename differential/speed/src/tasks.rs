@@ -20,7 +20,7 @@ pub struct Workload {
     pub title: &'static str,
     pub input: Input,
     pub ours: &'static Task,
-    /// What ours is held against, and how much of their time it may take.
+    /// What ours is compared with, and how much of their time it may take.
     pub others: Others,
 }
 

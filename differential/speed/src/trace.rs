@@ -1,5 +1,5 @@
-//! The trace that is walked, and the records that are written: a believable mix, in an order that no branch predictor
-//! learns, and the same in every run.
+//! The trace that is walked, and the records that are written: a realistic mix, in an order that no branch predictor
+//! can learn, and the same in every run.
 
 use crate::names;
 use crate::stage::Given;
@@ -50,7 +50,7 @@ const MIX: [(usize, u64); 15] = [
 
 const REGISTERS: usize = 48;
 const MAP_SIZE: usize = 64 << 10;
-/// A Map comes once in so many bytes of contents.
+/// A Map comes once in this many bytes of contents.
 const MAP_EVERY: usize = 2 << 20;
 
 #[derive(Default)]
@@ -145,7 +145,7 @@ pub fn cut(trace: &[u8], size: usize) -> &[u8] {
     &trace[..records.map(|raw| raw.len()).sum()]
 }
 
-/// Records to be written, and the bytes of all of them, one behind the other.
+/// Records to be written, and the bytes of all of them, one after the other.
 pub struct Plan {
     records: Vec<(FlatRecord, usize)>,
     data: Vec<u8>,

@@ -1,5 +1,5 @@
 //! Stands for the crate `dataflow`, so that the original's lib.rs and record.rs are compiled unchanged: the names
-//! that they mention, and nothing behind them. The comparison uses none of them.
+//! that they mention, without any function. The comparison uses none of them.
 
 macro_rules! error {
     ($name:ident) => {

@@ -7,7 +7,7 @@ pub struct Mmap(Vec<u8>);
 
 impl Mmap {
     /// # Safety
-    /// Safe; `memmap` marks it so.
+    /// This function is safe; it is marked unsafe because that of `memmap` is.
     pub unsafe fn map(_: &File) -> io::Result<Mmap> {
         Err(io::ErrorKind::Unsupported.into())
     }

@@ -7,7 +7,7 @@ use proc_macro::{Delimiter, Group, TokenStream, TokenTree};
 /// A struct, or one variant of an enum.
 struct Case {
     path: String,
-    /// What stands in `#[error(..)]`.
+    /// What is in `#[error(..)]`.
     error: String,
     fields: Vec<Field>,
 }
@@ -18,7 +18,7 @@ struct Field {
     source: bool,
 }
 
-/// Attributes, by name and by what stands in them, and the tokens behind them.
+/// Attributes, by name and by what is in them, and the tokens after them.
 type Part = (Vec<(String, String)>, Vec<TokenTree>);
 
 #[proc_macro_derive(Error, attributes(error, from, source))]
@@ -50,7 +50,7 @@ fn part(tokens: Vec<TokenTree>) -> Part {
     (attributes, rest.to_vec())
 }
 
-/// What stands between the commas of `group`.
+/// What is between the commas of `group`.
 fn parts(group: &Group) -> Vec<Part> {
     let tokens: Vec<TokenTree> = group.stream().into_iter().collect();
     let split = tokens.split(|token| token.to_string() == ",");

@@ -5,7 +5,7 @@ use crate::content::{need, META_NEEDS};
 use crate::frame::*;
 use crate::random::Random;
 
-/// What content bytes are, by place: zeros, ones, counting, or random.
+/// Content bytes by their offset: zeros, ones, counting, or random.
 const FILLS: [fn(usize, &mut Random) -> u8; 4] =
     [|_, _| 0, |_, _| 0xff, |place, _| place as u8 + 1, |_, random| random.byte()];
 
@@ -52,7 +52,7 @@ fn fills(fine: usize, size: usize, random: &mut Random, use_content: Use) {
     }
 }
 
-/// The content in each width and with each trailer: alone, with bytes behind it, and without its last byte.
+/// The content in each width and with each trailer: alone, with bytes after it, and without its last byte.
 fn frames(kind: u8, content: &[u8], use_input: Use) {
     for width in WIDTHS {
         for trailer in TRAILERS {
@@ -67,7 +67,7 @@ fn frames(kind: u8, content: &[u8], use_input: Use) {
     }
 }
 
-/// Lengths at the borders of their bytes, up to the largest, with few bytes behind them.
+/// Lengths at the limits of their widths, up to the largest, with few bytes after them.
 pub fn lengths(_: usize, use_input: Use) {
     let borders = [7, 8, 15, 16, 24, 31, 32].map(|bits| 1u64 << bits);
     for kind in (0..=252u8).step_by(4) {
@@ -85,7 +85,7 @@ pub fn lengths(_: usize, use_input: Use) {
     }
 }
 
-/// Eight tags of Meta and of FileMeta to a trace, with as many bytes as each takes.
+/// Traces of eight tags of Meta and of FileMeta each, with as many bytes as each tag takes.
 pub fn tag_rows(_: usize, use_input: Use) {
     for kind in [META, FILE_META] {
         for row in (0..=248u8).step_by(8) {

@@ -1,4 +1,4 @@
-//! Register lists: the count against the entries, entries that are cut, and bytes behind the counted ones.
+//! Register lists: the count against the entries, entries that are cut, and bytes after the counted ones.
 
 use super::Use;
 use crate::content::entry;
@@ -20,7 +20,7 @@ pub fn lists(count: usize, use_input: Use) {
     random_lists(count, use_input);
 }
 
-/// Lists with a count that is stated, rightly or wrongly; some are longer than any that is written.
+/// Lists with a stated count, right or wrong; some are longer than any that is written.
 pub fn fixed(use_list: UseList) {
     regular(use_list);
     small(use_list);
@@ -42,7 +42,7 @@ fn regular(use_list: UseList) {
     }
 }
 
-/// All lists of up to five bytes out of a few.
+/// All lists of up to five bytes, from a few byte values.
 fn small(use_list: UseList) {
     const BYTES: [u8; 6] = [0, 1, 2, 3, 4, 255];
     for length in 0..=5u32 {
@@ -54,7 +54,7 @@ fn small(use_list: UseList) {
     }
 }
 
-/// As many entries as a count can tell, and about as many.
+/// As many entries as a count can state, and a few more or less.
 fn long(use_list: UseList) {
     for entries in 253..=257 {
         for name in [0, 1, 255] {

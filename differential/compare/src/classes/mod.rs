@@ -1,5 +1,5 @@
 //! The inputs, class by class. Each class hands its inputs to `use_input`, in the same order in every run. An input is
-//! bytes to be read; in the classes of `writing`, a row of records to be written.
+//! bytes to be read or, in the classes of `writing`, a row of records to be written.
 
 mod kinds;
 mod lists;
@@ -22,8 +22,8 @@ pub type Use<'a, T = [u8]> = &'a mut dyn FnMut(&T);
 pub struct Class<T: ?Sized = [u8]> {
     pub name: &'static str,
     make: fn(usize, Use<T>),
-    /// How many inputs are asked for in the bounded and in the long run. A class that has an end of its own takes
-    /// this for how fine it is.
+    /// How many inputs are asked for in the bounded and in the long run. For a class with a fixed end it says how fine
+    /// the class is.
     bounded: usize,
     long: usize,
     /// How many are kept.

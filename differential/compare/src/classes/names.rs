@@ -1,4 +1,4 @@
-//! CallBegin names at the borders of RFC 3629, at several places of their 32 bytes.
+//! CallBegin names at the limits of RFC 3629, at several offsets in their 32 bytes.
 
 use super::Use;
 use crate::frame::{written, META};
@@ -8,7 +8,7 @@ const SECONDS: [u8; 12] = [0x00, 0x41, 0x7f, 0x80, 0x8f, 0x90, 0x9f, 0xa0, 0xbf,
 const TAILS: [u8; 5] = [0x00, 0x7f, 0x80, 0xbf, 0xc0];
 const ADDRESS: [u8; 8] = [1, 2, 3, 4, 5, 6, 7, 8];
 
-/// Characters at the borders of each size.
+/// Characters at the limits of each size.
 pub const CHARACTERS: [&str; 11] = [
     "a",
     "\u{7f}",
@@ -52,7 +52,7 @@ pub fn sequences(fine: usize, use_sequence: Use) {
     }
 }
 
-/// Every length of name from characters of each size, and what stands behind the zero is not looked at.
+/// Every length of name from characters of each size. What follows the zero byte varies, and must be ignored.
 fn lengths(use_input: Use) {
     for character in CHARACTERS {
         let text = character.repeat(32);
@@ -69,7 +69,7 @@ fn lengths(use_input: Use) {
     }
 }
 
-/// Names good and bad with address bytes that are cut, and too many.
+/// Good and bad names, with address bytes cut off or added.
 fn sizes(use_input: Use) {
     for bad in [0x00, b'a', 0x80, 0xc0, 0xff] {
         for place in 0..32 {
@@ -84,7 +84,7 @@ fn sizes(use_input: Use) {
     }
 }
 
-/// Random characters, of which one byte is altered as often as not.
+/// Random characters; half the time one byte of them is altered.
 fn texts(count: usize, use_input: Use) {
     let mut random = Random::new(3);
     for _ in 0..count {

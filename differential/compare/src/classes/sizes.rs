@@ -1,4 +1,4 @@
-//! Contents about the borders of the length's widths, and beyond what a writer takes.
+//! Contents about the limits of the length's widths, and longer than a writer takes.
 
 use super::Use;
 use crate::frame::*;
@@ -22,7 +22,7 @@ pub fn sizes(fine: usize, use_input: Use) {
     }
 }
 
-/// One byte over and over, behind eight others so that Meta has every kind of tag.
+/// One byte over and over, after eight others that give Meta every kind of tag.
 fn fills(kind: u8, size: usize, use_input: Use) {
     for fill in [0x00, 0x0a, 0x61, 0xff] {
         for first in [0x00, 0x03, 0x0b, 0x0c] {

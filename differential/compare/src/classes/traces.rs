@@ -1,4 +1,4 @@
-//! Traces of several records: as this program writes them, as the original emits them, damaged; and random strings.
+//! Traces of several records: as this program writes them, as the original emits them, and damaged; and random strings.
 
 use super::Use;
 use crate::content::content;
@@ -28,7 +28,7 @@ pub fn emitted(count: usize, use_input: Use) {
     }
 }
 
-/// Each trace is damaged several times, each time anew, with another trace at hand for splices.
+/// Each trace is damaged several times, each time from the start, with another trace for splices.
 pub fn damaged(count: usize, use_input: Use) {
     let mut random = Random::new(7);
     let (mut bytes, mut other, mut now) = (Vec::new(), Vec::new(), Vec::new());

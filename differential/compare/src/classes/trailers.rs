@@ -1,4 +1,4 @@
-//! Trailers for reading backwards: such as lead to the start of their record, close by, before the first byte, and far
+//! Trailers for reading backwards, that lead to the start of their record, close to it, before the first byte, or far
 //! off.
 
 use super::Use;

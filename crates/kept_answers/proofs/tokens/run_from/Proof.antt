@@ -1,4 +1,4 @@
--- `kept_answers::tokens::run_from` is safe and ends: the run has bytes, and lies within them all.
+-- `kept_answers::tokens::run_from` is safe and ends: the run has at least one byte, and lies within the slice.
 -- Assumes nothing.
 use Prim.Native.Nat.{_-_, _≤_, _<_}
 use lib.ListN.{length}

@@ -1,4 +1,4 @@
--- `numbers::copy::copy_short` meets its contract: of no bytes, there is nothing to copy.
+-- `numbers::copy::copy_short` meets its contract: where there are no bytes, there is nothing to copy.
 -- Assumes nothing.
 use mathlib.Core.Path.{_≡_, sym}
 use mathlib.Core.List.{List, [], _∷_}

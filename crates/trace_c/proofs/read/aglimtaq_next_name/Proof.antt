@@ -2,7 +2,7 @@
 -- Assumes nothing.
 use mathlib.Core.Path.{sym, _∙_}
 use borrow.Author.Needs.{needs}
-use Rattle.trace_c.specs.Flat.{flatName, nameNumber}
+use Rattle.trace_c.specs.Reading.{flatName, nameNumber}
 use Rattle.trace_c.proofs.read.aglimtaq_next_name.Statement.{statement}
 use Rattle.trace_c.proofs.read.aglimtaq_next_name.Tie as tie
 

@@ -3,7 +3,7 @@
 use mathlib.Core.Path.{ap, _∙_}
 use borrow.Author.Needs.{needs}
 use Rattle.records.specs.Positions.{readPrevious}
-use Rattle.trace_c.specs.Flat.{flatReading}
+use Rattle.trace_c.specs.Reading.{flatReading}
 use Rattle.trace_c.proofs.read.aglimtaq_read_previous.Statement.{statement}
 use Rattle.trace_c.proofs.read.aglimtaq_read_previous.Tie as tie
 

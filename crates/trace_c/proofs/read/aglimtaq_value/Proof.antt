@@ -2,7 +2,7 @@
 -- Assumes nothing.
 use mathlib.Core.Path.{sym, _∙_}
 use borrow.Author.Needs.{needs}
-use Rattle.trace_c.specs.Flat.{flatContent, contentNumber}
+use Rattle.trace_c.specs.Reading.{flatContent, contentNumber}
 use Rattle.trace_c.proofs.read.aglimtaq_value.Statement.{statement}
 use Rattle.trace_c.proofs.read.aglimtaq_value.Tie as tie
 

@@ -2,7 +2,7 @@
 -- Assumes nothing.
 use mathlib.Core.Path.{ap}
 use borrow.Author.Needs.{needs}
-use Rattle.trace_c.specs.Flat.{flatEnd}
+use Rattle.trace_c.specs.Reading.{flatEnd}
 use Rattle.trace_c.proofs.whole.aglimtaq_walk.Statement.{statement}
 use Rattle.trace_c.proofs.whole.aglimtaq_walk.Tie as tie
 

@@ -7,7 +7,7 @@ use Rattle.records.specs.declared.position.Position.{Position}
 use Rattle.records.specs.declared.position.Written.{Written}
 use Rattle.records.specs.Contents.{Rec}
 use Rattle.records.specs.Positions.{written}
-use Rattle.trace_c.specs.Records.{given, verdictNumber, writtenNumber, writtenNext, writtenBytes}
+use Rattle.trace_c.specs.Writing.{given, verdictNumber, writtenNumber, writtenNext, writtenBytes}
 use Rattle.trace_c.proofs.write.aglimtaq_write.Statement.{statement}
 use Rattle.trace_c.proofs.write.aglimtaq_write.Tie as tie
 

@@ -1,7 +1,7 @@
 -- `trace_c::write::number_of` meets its contract.
 -- Assumes nothing.
 use borrow.Author.Needs.{needs}
-use Rattle.trace_c.specs.Records.{verdictNumber}
+use Rattle.trace_c.specs.Writing.{verdictNumber}
 use Rattle.trace_c.proofs.write.number_of.Statement.{statement}
 use Rattle.trace_c.proofs.write.number_of.Tie as tie
 

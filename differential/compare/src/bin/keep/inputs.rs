@@ -20,7 +20,7 @@ pub struct Inputs {
 }
 
 impl Inputs {
-    /// False where the input is not kept: too long, outside the domain, or there already.
+    /// False where the input is not kept: it is too long, outside the domain, or kept already.
     pub fn keep(&mut self, bytes: &[u8], lines: &mut Lines) -> bool {
         if bytes.len() > LONGEST_INPUT || self.kept.contains(bytes) {
             return false;

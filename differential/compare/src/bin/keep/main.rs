@@ -1,5 +1,5 @@
-//! Writes down inputs and what the original Rust answers to each, and records and what it emits of each, for a program
-//! that replays them without Rust: `keep DIR` makes DIR/stdin and DIR/stdout. The proved codec is not linked into this
+//! Writes inputs and what the original Rust answers to each, and records and what it emits of each, for a program that
+//! replays them without Rust. `keep DIR` makes DIR/stdin and DIR/stdout. The proved codec is not linked into this
 //! program.
 
 mod inputs;
@@ -60,8 +60,8 @@ fn main() {
     println!("{} inputs, {} records", inputs.count(), records.count());
 }
 
-/// Keeps as many inputs as the class says, evenly out of all that it has. Classes go round by twos and threes,
-/// and the step does not.
+/// Keeps as many inputs as the class says, evenly out of all that it has. Classes repeat in cycles of two and three;
+/// the step is a multiple of neither.
 fn keep_class<T: ?Sized>(class: &Class<T>, keep: &mut dyn FnMut(&T) -> bool) {
     let mut inputs = 0;
     class.make(Run::Bounded, &mut |_| inputs += 1);

@@ -8,12 +8,12 @@ use compare::types::{Slice, Type, MAP, TYPES};
 use compare::writing::emit;
 use std::collections::BTreeSet;
 
-/// Sizes of content that every type has which grows; and one that only a Map has.
+/// Sizes of content for every type whose content grows, and one for Map alone.
 const SIZES: [usize; 6] = [252, 253, 254, 255, 256, 65_530];
 const LONG_MAP: usize = 65_539;
 const LONGEST_NAME: usize = 32;
 
-/// A record that is kept for what it shows takes lines of so many bytes at most.
+/// The longest line, in bytes, of a record that is kept for what it shows.
 const SHORT_LINE: usize = 120;
 
 #[derive(Default)]
@@ -27,11 +27,11 @@ pub struct Records {
 enum Shows {
     /// A type, with the tag where there is one.
     Type(u64, u64),
-    /// A type with so many content bytes.
+    /// A type, and its number of content bytes.
     Size(u64, usize),
-    /// A type with one of its numbers as large as can be.
+    /// A type, and which of its numbers is as large as can be.
     Largest(u64, usize),
-    /// A name of so many bytes.
+    /// A name, by its number of bytes.
     Name(usize),
 }
 
@@ -43,7 +43,7 @@ impl Records {
         }
     }
 
-    /// False where the record is not kept: too long, outside the domain, or there already.
+    /// False where the record is not kept: it is too long, outside the domain, or kept already.
     pub fn keep(&mut self, given: &Given, longest: usize, lines: &mut Lines) -> bool {
         let mut bytes = Vec::new();
         let known = given.bytes.len() > LONGEST_INPUT || self.kept.contains(given);

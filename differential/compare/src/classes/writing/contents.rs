@@ -1,4 +1,4 @@
-//! Contents of every length up to forty, and about the borders of the frames; and every tag.
+//! Contents of every length up to forty, and about the limits of the frames; and every tag.
 
 use super::Give;
 use crate::given::Given;
@@ -31,8 +31,8 @@ pub fn contents(fine: usize, give: Give) {
     }
 }
 
-/// Every type whose content grows, at the sizes of content where the frame changes; and larger Maps. A type whose
-/// content does not is handed as many bytes.
+/// Every type whose content grows, at the sizes of content where the frame changes; and larger Maps. Other types are
+/// handed as many bytes.
 pub fn sizes(fine: usize, give: Give) {
     let mut random = Random::new(14);
     for kind in &TYPES {
@@ -50,7 +50,7 @@ pub fn sizes(fine: usize, give: Give) {
     }
 }
 
-/// Random bytes; and one byte over and over, behind a few others.
+/// Random bytes; and one byte over and over, after a few others.
 fn fills(random: &mut Random, length: usize, use_bytes: &mut dyn FnMut(&mut Random, &[u8])) {
     for fill in FILLS {
         let mut bytes = vec![fill; length];

@@ -1,4 +1,4 @@
-//! Records to write, class by class, in rows: the records of a row are written one behind the other.
+//! Records to write, class by class, in rows: the records of a row are written one after the other.
 
 mod contents;
 mod names;

@@ -11,8 +11,8 @@ fn give_name(name: &[u8], give: Give) {
     give(&[Given::new(CALL_BEGIN, [0x1000, 0, 0], name)]);
 }
 
-/// Every length, and three that are too much: of each character as many as fit, and ones behind them; or the last of
-/// them cut.
+/// Every length, and three that are too long: of each character as many as fit, filled up with the digit 1; or with the
+/// last one cut.
 pub fn names(_: usize, give: Give) {
     for length in 0..=35 {
         for character in CHARACTERS.iter().cycle().skip(length).take(CHARACTERS.len()) {
@@ -25,8 +25,8 @@ pub fn names(_: usize, give: Give) {
     }
 }
 
-/// The borders of RFC 3629, zero bytes at every place, and random characters of which one byte is altered as often as
-/// not.
+/// The limits of RFC 3629, zero bytes at every offset, and random characters, of which half the time one byte is
+/// altered.
 pub fn texts(fine: usize, give: Give) {
     sequences(fine, &mut |sequence| {
         for (before, length) in [(0, 1), (0, 2), (0, 3), (0, 4), (7, 4), (28, 4), (29, 3), (31, 1)] {

@@ -1,4 +1,4 @@
-//! Numbers at the borders of all widths; and what is not a record.
+//! Numbers at the limits of all widths; and what is not a record.
 
 use super::Give;
 use crate::given::{numbers as fitting, Given};
@@ -7,12 +7,12 @@ use crate::types::{Slice, Type, TYPES};
 
 const BORDERS: [u64; 10] = [0, 1, 255, 256, 65_535, 65_536, u32::MAX as u64, 1 << 32, 1 << 63, u64::MAX];
 
-/// Types that nothing is written of; cut to fewer bits, some would be others.
+/// Types that are not written; cut to fewer bits, some would be types that are.
 const NO_TYPES: [u64; 14] =
     [0, 2, 28, 29, 127, 128, 255, 256, 257, 0x1_0005, 0x1_0000_0001, 0x1_0000_000c, 1 << 63 | 27, u64::MAX];
 
-/// Every type with each of its numbers at each border, or anything, such as fit and such as do not; and with each
-/// length of bytes.
+/// Every type with each of its numbers at each limit, or random, whether they fit or not; and with each length of
+/// bytes.
 pub fn numbers(fine: usize, give: Give) {
     let mut random = Random::new(11);
     let choices = BORDERS.len() + 1;
@@ -30,7 +30,7 @@ pub fn numbers(fine: usize, give: Give) {
     }
 }
 
-/// The numbers, and bytes to go with them: of a register list as many entries as it counts.
+/// The numbers, and bytes to go with them: for a register list as many entries as it counts.
 fn with(random: &mut Random, kind: &Type, numbers: [u64; 3], length: usize) -> Given {
     let mut given = Given::good(random, kind, length);
     given.record.numbers = numbers;
@@ -41,7 +41,7 @@ fn with(random: &mut Random, kind: &Type, numbers: [u64; 3], length: usize) -> G
     given
 }
 
-/// Not a record, and nothing else is looked at: the bytes may be as wrong as they like.
+/// What is not a record: nothing else must be looked at, so the bytes may be wrong in any way.
 pub fn wrong(fine: usize, give: Give) {
     let mut random = Random::new(12);
     for _ in 0..fine {
