@@ -3,3 +3,4 @@ pub mod Fields
 pub mod Given
 pub mod Reading
 pub mod Writing
+pub mod Calls

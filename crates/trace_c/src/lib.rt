@@ -7,6 +7,7 @@ pub mod types;
 mod utf8;
 mod whole;
 mod write;
+pub mod write_all;
 
 pub use read::aglimtaq_next_name;
 pub use read::aglimtaq_one_record;
@@ -19,3 +20,4 @@ pub use whole::aglimtaq_count;
 pub use whole::aglimtaq_walk;
 pub use whole::aglimtaq_walk_back;
 pub use write::aglimtaq_write;
+pub use write_all::aglimtaq_write_all;

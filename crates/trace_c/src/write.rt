@@ -7,7 +7,7 @@ use crate::given::new_of;
 use records::judge::Verdict;
 use records::position::Position;
 
-fn number_of(verdict: Verdict) -> u64
+pub(crate) fn number_of(verdict: Verdict) -> u64
     ensures { λ r. ⌜ r ≡ verdictNumber verdict ⌝ }
 {
     match verdict {

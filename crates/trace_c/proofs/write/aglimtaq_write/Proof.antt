@@ -1,19 +1,12 @@
 -- `trace_c::write::aglimtaq_write` meets its contract: what write says and leaves, as numbers; or that no record was given.
 -- Assumes nothing.
-use mathlib.Core.Path.{_≡_, sym, ap, _∙_}
-use Prim.Native.Nat.{ℕ}
+use mathlib.Core.Path.{sym, ap, _∙_}
 use borrow.Author.Needs.{needs}
-use Rattle.records.specs.declared.position.Position.{Position}
 use Rattle.records.specs.declared.position.Written.{Written}
-use Rattle.records.specs.Contents.{Rec}
-use Rattle.records.specs.Positions.{written}
 use Rattle.trace_c.specs.Writing.{given, verdictNumber, writtenNumber, writtenNext, writtenBytes}
+use Rattle.trace_c.proofs.CallLaws.{from-place}
 use Rattle.trace_c.proofs.write.aglimtaq_write.Statement.{statement}
 use Rattle.trace_c.proofs.write.aglimtaq_write.Tie as tie
-
--- what is written from a position, said of an equal position
-from-place : (lent : ℕ) {p q : Position} (r : Rec) {w : Written} → w ≡ written lent p r → p ≡ q → w ≡ written lent q r
-from-place lent r e h = e ∙ ap (λ (x : Position). written lent x r) h
 
 element-copy-out-new-of : tie.Need-element-copy-out-new-of
 element-copy-out-new-of c = search needs

@@ -1,0 +1,2 @@
+mod CallLaws
+pub mod Theorem
