@@ -6,3 +6,4 @@ pub mod TextLaws
 pub mod GrammarLaws
 pub mod Rules
 pub mod HighestLaws
+pub mod Examples

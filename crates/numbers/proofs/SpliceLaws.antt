@@ -17,18 +17,6 @@ module _ (d : List ℕ) (at : ℕ) (ys : List ℕ) where
       let inside : at ≤ length d = omega arith in
       simp (length-append, length-take-le, length-drop) (omega arith)
 
-  -- before the offset
-  pub take-splice : (k : ℕ) → k ≤ at → at ≤ length d → take k (splice d at ys) ≡ take k d
-  unfolding splice
-  take-splice k h inside =
-      let short : k ≤ length (take at d) = rw length-take-le h in
-      rw (take-append-le, take-take)
-
-  -- at the offset
-  pub part-splice : at ≤ length d → part (splice d at ys) at (length ys) ≡ ys
-  unfolding splice
-  part-splice inside = part-at (take at d) ys (drop (at + length ys) d) at (length ys) (length-take-le at d inside) refl
-
   -- up to an offset within what was written, and up to its end
   pub take-splice-in : (k : ℕ) → k ≤ length ys → at ≤ length d → take (at + k) (splice d at ys) ≡ take at d ++ take k ys
   unfolding splice

@@ -50,7 +50,7 @@ pub fn put1(out: &mut [u8], at: usize, value: u8)
     out[at] = value;
 }
 
-pub fn put2(out: &mut [u8], at: usize, value: u16)
+pub(crate) fn put2(out: &mut [u8], at: usize, value: u16)
     requires { ⌜ at + 2 ≤ length (now out) ⌝ }
     ensures { λ _. ⌜ now (out .exit) ≡ splice (now (out .entry)) at (leBytes 2 value) ⌝ }
 {
@@ -66,7 +66,7 @@ pub fn put4(out: &mut [u8], at: usize, value: u32)
     put2(out, at + 2, (value / 65536) as u16);
 }
 
-pub fn put8(out: &mut [u8], at: usize, value: u64)
+pub(crate) fn put8(out: &mut [u8], at: usize, value: u64)
     requires { ⌜ at + 8 ≤ length (now out) ⌝ }
     ensures { λ _. ⌜ now (out .exit) ≡ splice (now (out .entry)) at (leBytes 8 value) ⌝ }
 {

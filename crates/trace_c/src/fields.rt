@@ -187,7 +187,7 @@ pub fn of_answer(position: usize, answer: Answer) -> [u64; 11]
     }
 }
 
-pub fn of_parsed(parsed: Parsed) -> [u64; 11]
+pub(crate) fn of_parsed(parsed: Parsed) -> [u64; 11]
     ensures { λ r. ⌜ r ≡ flatParsed parsed ⌝ }
 {
     match parsed {

@@ -3,7 +3,7 @@
 pub mod fields;
 pub mod given;
 mod read;
-pub mod types;
+mod types;
 mod utf8;
 mod whole;
 mod write;
