@@ -1,5 +1,6 @@
 // Standard input of the programs that list a trace, 65,536 bytes at most: document 01, "Listing".
-use libc::STDERR_FILENO;
+use crate::failure::say_unread;
+use crate::failure::say_unwritten;
 use libc::STDIN_FILENO;
 use libc::STDOUT_FILENO;
 
@@ -24,17 +25,17 @@ fn read_more() -> Behind {
     }
 }
 
-// The message, with the program's name before it.
-fn say_failed(program: &[u8]) {
-    io::write_all(STDERR_FILENO, program);
-    io::write_all(STDERR_FILENO, b": standard input could not be read\n");
+fn say_too_long(program: &[u8]) {
+    if !io::write_all(STDOUT_FILENO, b"too long\n") {
+        say_unwritten(program);
+    }
 }
 
 fn say_too_long_or_failed(n: usize, program: &[u8]) {
     if n == 65536 {
-        io::write_all(STDOUT_FILENO, b"too long\n");
+        say_too_long(program);
     } else {
-        say_failed(program);
+        say_unread(program);
     }
 }
 
@@ -43,7 +44,7 @@ pub fn is_all(n: usize, program: &[u8]) -> bool {
     match read_more() {
         Behind::Nothing => return true,
         Behind::More => say_too_long_or_failed(n, program),
-        Behind::Failed => say_failed(program),
+        Behind::Failed => say_unread(program),
     }
     false
 }

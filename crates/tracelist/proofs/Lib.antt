@@ -1,2 +1,5 @@
-mod DigitLaws
-mod LineLaws
+pub mod DigitLaws
+mod TextLaws
+pub mod LineLaws
+mod PieceLaws
+pub mod Examples

@@ -3,6 +3,7 @@ ghost use mathlib.Core.Path.{_≡_};
 ghost use Prim.Native.Nat.{_≤_, _<_};
 ghost use lib.ListN.{length};
 ghost use Rattle.frames.specs.Frames.{entries};
+ghost use Rattle.records.specs.Positions.{here, readNext};
 ghost use Rattle.tracelist.specs.Listing.{recordLine, lineOf};
 use frames::head::kind_in;
 use records::position::Answer;
@@ -38,7 +39,7 @@ fn record_line(heads: &[u16; 256], s: &[u8], start: usize, end: usize, number: u
 // The line of what is at an offset of the trace.
 pub fn line_at(heads: &[u16; 256], s: &[u8], at: usize) -> Line
     requires { ⌜ now heads ≡ entries ⌝ }
-    ensures { λ r. ⌜ r ≡ lineOf (now (s .entry)) at ⌝ }
+    ensures { λ r. ⌜ r ≡ lineOf (now (s .entry)) (readNext (now (s .entry)) (here at)) ⌝ }
 {
     let reading = Position::at(at).read_next_in(heads, s);
     let answer = reading.answer;

@@ -7,6 +7,7 @@ use Rattle.records.specs.declared.position.Reading.{Reading}
 use Rattle.records.proofs.AheadLaws.{Ahead, next-ahead}
 use Rattle.records.specs.Positions.{here, readNext}
 use Rattle.tracelist.specs.Listing.{lineAs, lineOf}
+use Rattle.tracelist.proofs.LineLaws.{line-next}
 use Rattle.tracelist.proofs.line.line_at.Statement.{statement}
 use Rattle.tracelist.proofs.line.line_at.Tie as tie
 
@@ -54,16 +55,16 @@ unfolding lineOf lineAs
 returns-2 c = c .record-line2 .ensures ∙ sym (rw (ap (λ (r : Reading). r .answer) (sym (c .before .before .before .before .read-next-in .ensures ∙ ap (readNext _) (c .before .before .before .before .before .at .ensures))) ∙ c .before .before .answer2 .given .1))
 
 returns-3 : tie.Need-returns-3
-unfolding lineOf lineAs
-returns-3 c = rw (ap (λ (r : Reading). r .answer) (sym (c .before .before .read-next-in .ensures ∙ ap (readNext _) (c .before .before .before .at .ensures))) ∙ c .enum-told .given .1)
+unfolding lineAs
+returns-3 c = sym (line-next _ _ ∙ rw (ap (λ (r : Reading). r .answer) (sym (c .before .before .read-next-in .ensures ∙ ap (readNext _) (c .before .before .before .at .ensures))) ∙ c .enum-told .given .1))
 
 returns-4 : tie.Need-returns-4
-unfolding lineOf lineAs
-returns-4 c = rw (ap (λ (r : Reading). r .answer) (sym (c .before .before .read-next-in .ensures ∙ ap (readNext _) (c .before .before .before .at .ensures))) ∙ c .enum-told2 .given .1)
+unfolding lineAs
+returns-4 c = sym (line-next _ _ ∙ rw (ap (λ (r : Reading). r .answer) (sym (c .before .before .read-next-in .ensures ∙ ap (readNext _) (c .before .before .before .at .ensures))) ∙ c .enum-told2 .given .1))
 
 returns-5 : tie.Need-returns-5
-unfolding lineOf lineAs
-returns-5 c = rw (ap (λ (r : Reading). r .answer) (sym (c .before .before .before .read-next-in .ensures ∙ ap (readNext _) (c .before .before .before .before .at .ensures))) ∙ c .before .answer3 .given .1)
+unfolding lineAs
+returns-5 c = sym (line-next _ _ ∙ rw (ap (λ (r : Reading). r .answer) (sym (c .before .before .before .read-next-in .ensures ∙ ap (readNext _) (c .before .before .before .before .at .ensures))) ∙ c .before .answer3 .given .1))
 
 pub line-at-spec : {M : Type 1} → statement M
 line-at-spec =

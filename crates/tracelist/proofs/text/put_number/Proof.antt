@@ -1,11 +1,12 @@
--- `tracelist::text::put_number` keeps to its room: a number of 64 bits takes 20 digits at most.
+-- `tracelist::text::put_number` meets its contract: the digits that the kit puts are those of the definition.
 -- Assumes nothing.
-use mathlib.Core.Path.{_∙_}
-use Prim.Native.Nat.{_≤_}
+use mathlib.Core.Path.{_≡_, ap, _∙_}
+use mathlib.Core.List.{[], _∷_}
 use native.Mathlib.Omega.{arith}
 use borrow.Author.Needs.{needs}
-use lib.ListN.{length-set}
-use Rattle.tracelist.proofs.DigitLaws.{digits-most}
+use lib.ListN.{length, take, length-append}
+use Rattle.tracelist.specs.Listing.{decimal}
+use Rattle.tracelist.proofs.DigitLaws.{digits-decimal, length-decimal}
 use Rattle.tracelist.proofs.text.put_number.Statement.{statement}
 use Rattle.tracelist.proofs.text.put_number.Tie as tie
 
@@ -15,34 +16,27 @@ decimal-requires c κs = search needs
 array-share-prefix-digits : tie.Need-array-share-prefix-digits
 array-share-prefix-digits c = search needs
 
-slice-aggregate-put-word : tie.Need-slice-aggregate-put-word
-slice-aggregate-put-word c = search needs
+slice-aggregate-put-field : tie.Need-slice-aggregate-put-field
+slice-aggregate-put-field c = search needs
 
-few : (c : tie.After-decimal) → c .decimal .result ≤ 20
-few c = digits-most 10 1 (c .before .before .before .args .n) (c .decimal .result) 20 (omega arith) (omega arith) (omega arith) (c .decimal .ensures .1 .0)
+-- the digits that the kit puts
+spelled : (c : tie.After-decimal) → take (c .decimal .result) (c .decimal .last .1 .0) ≡ decimal (c .before .before .before .args .n)
+spelled c = c .decimal .ensures .1 .1 ∙ digits-decimal (c .before .before .before .args .n) (c .decimal .result) (c .decimal .ensures .1 .0)
 
-put-word-requires : tie.Need-put-word-requires
-put-word-requires c κs = omega (arith, few (c .before .before), c .before .before .decimal .ensures .0 .1, c .before .before .before .before .before .pre)
-
-slice-write-out : tie.Need-slice-write-out
-slice-write-out c =
-    let p = c .before .before .put-word .ensures in
-    omega (arith, few (c .before .before .before .before .before), c .before .before .before .before .before .decimal .ensures .0 .1, c .before .before .before .before .before .before .before .before .pre, p .0, p .1)
-
-add-result : tie.Need-add-result
-add-result c =
-    let p = c .before .before .put-word .ensures in
-    omega (arith, few (c .before .before .before .before .before), c .before .before .before .before .before .decimal .ensures .0 .1, c .before .before .before .before .before .before .before .before .pre, p .0)
+put-field-requires : tie.Need-put-field-requires
+put-field-requires c κs =
+    let e = ap length (spelled (c .before .before)) in
+    let f = length-decimal (c .before .before .before .before .before .args .n) (omega arith) in
+    omega (arith, e, f, c .before .before .before .before .before .pre)
 
 same-length : tie.Need-same-length
 same-length c = search needs
 
 returns : tie.Need-returns
 returns c =
-    let p = c .before .before .put-word .ensures in (
-      omega (arith, few (c .before .before .before .before .before), c .before .before .before .before .before .decimal .ensures .0 .1, p .0),
-      length-set (c .before .before .put-word .last .0) (c .before .before .put-word .result) (c .before .before .before .before .before .before .before .before .args .behind) ∙ p .1,
-    )
+    let p = rw (spelled (c .before .before .before .before .before)) at (c .before .before .put-field .ensures) in
+    let f = length-decimal (c .before .before .before .before .before .before .before .before .args .n) (omega arith) in
+    ((p .0, omega (arith, p .0, f, length-append (decimal (c .before .before .before .before .before .before .before .before .args .n)) (c .before .before .before .before .before .before .before .before .args .after ∷ []))), p .1)
 
 pub put-number-spec : {M : Type 1} → statement M
 put-number-spec =
@@ -50,9 +44,7 @@ put-number-spec =
     (tie.spec
     decimal-requires
     array-share-prefix-digits
-    slice-aggregate-put-word
-    put-word-requires
-    slice-write-out
-    add-result
+    slice-aggregate-put-field
+    put-field-requires
     same-length
     returns)
