@@ -1,6 +1,4 @@
 // A line that asks for a record to be written, `w TYPE N0 N1 N2 BYTES`: the bytes that are written.
-ghost use Prim.Native.Nat.{_≤_};
-ghost use lib.ListN.{length};
 use crate::input::decode;
 use crate::input::wide_number;
 use crate::tokens::tokens;

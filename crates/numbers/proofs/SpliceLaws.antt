@@ -6,9 +6,9 @@ use native.Mathlib.Nat.{le-refl, add-zero, add-assoc}
 use native.Mathlib.Numerals.{add-one}
 use native.Mathlib.Omega.{arith}
 use lib.ListN.{length, take, drop, set, length-append, length-drop, take-append-drop, drop-of-length-le}
-use lib.Seq.{length-take-le, take-length, take-append-le, take-append-add, take-take, drop-at, drop-drop, set-split}
-use Rattle.numbers.specs.Lists.{part, splice}
-use Rattle.numbers.proofs.ListLaws.{part-at, rest-is-drop, drop-past}
+use lib.Seq.{length-take-le, take-length, take-append-le, take-append-add, drop-at, drop-drop, set-split}
+use Rattle.numbers.specs.Lists.{splice}
+use Rattle.numbers.proofs.ListLaws.{rest-is-drop, drop-past}
 
 module _ (d : List ℕ) (at : ℕ) (ys : List ℕ) where
   pub length-splice : at + length ys ≤ length d → length (splice d at ys) ≡ length d
