@@ -1,13 +1,15 @@
 // Writing, by numbers and byte slices.
 ghost use mathlib.Core.Path.{_≡_};
 ghost use lib.ListN.{length};
-ghost use Rattle.trace_c.specs.Writing.{given, verdictNumber, writtenNumber, writtenNext, writtenBytes};
+ghost use Rattle.frames.specs.Demand.{Every};
+ghost use Rattle.records.specs.Traces.{Fits};
+ghost use Rattle.trace_c.specs.Writing.{given, callAs, verdictNumber, writtenNumber, writtenNext, writtenBytes};
 use crate::given::Given;
 use crate::given::new_of;
 use records::judge::Verdict;
 use records::position::Position;
 
-pub(crate) fn number_of(verdict: Verdict) -> u64
+fn number_of(verdict: Verdict) -> u64
     ensures { λ r. ⌜ r ≡ verdictNumber verdict ⌝ }
 {
     match verdict {
@@ -27,6 +29,7 @@ pub extern "C" fn aglimtaq_write(
     ensures { λ r. ⌜ r ≡ writtenNumber (length (now (out .entry))) position (now (bytes .entry)) (given (now («record» .entry))) ⌝ }
     ensures { λ _. ⌜ now (next .exit) ≡ writtenNext (length (now (out .entry))) position (now (bytes .entry)) (given (now («record» .entry))) ⌝ }
     ensures { λ _. ⌜ now (out .exit) ≡ writtenBytes (now (out .entry)) position (now (bytes .entry)) (given (now («record» .entry))) ⌝ }
+    ensures { λ _. ⌜ Every Fits (callAs (now (bytes .entry)) (given (now («record» .entry)))) ⌝ }
 {
     match new_of(record[0], record[1], record[2], record[3]) {
         Given::Record(new) => {

@@ -1,12 +1,20 @@
 -- `trace_c::write::aglimtaq_write` meets its contract: what write says and leaves, as numbers; or that no record was given.
 -- Assumes nothing.
-use mathlib.Core.Path.{sym, ap, _∙_}
+use mathlib.Core.Path.{_≡_, sym, ap, _∙_}
+use Prim.Native.Nat.{ℕ}
 use borrow.Author.Needs.{needs}
+use Rattle.frames.specs.Demand.Every.{none, also}
+use Rattle.records.specs.declared.position.Position.{Position}
 use Rattle.records.specs.declared.position.Written.{Written}
-use Rattle.trace_c.specs.Writing.{given, verdictNumber, writtenNumber, writtenNext, writtenBytes}
-use Rattle.trace_c.proofs.CallLaws.{from-place}
+use Rattle.records.specs.Contents.{Rec}
+use Rattle.records.specs.Positions.{written}
+use Rattle.trace_c.specs.Writing.{given, callAs, verdictNumber, writtenNumber, writtenNext, writtenBytes}
 use Rattle.trace_c.proofs.write.aglimtaq_write.Statement.{statement}
 use Rattle.trace_c.proofs.write.aglimtaq_write.Tie as tie
+
+-- what is written from a position, said of an equal position
+from-place : (lent : ℕ) {p q : Position} (r : Rec) {w : Written} → w ≡ written lent p r → p ≡ q → w ≡ written lent q r
+from-place lent r e h = e ∙ ap (λ (x : Position). written lent x r) h
 
 element-copy-out-new-of : tie.Need-element-copy-out-new-of
 element-copy-out-new-of c = search needs
@@ -42,21 +50,21 @@ same-length : tie.Need-same-length
 same-length c = search needs
 
 returns : tie.Need-returns
-unfolding given writtenNumber writtenNext writtenBytes
+unfolding given writtenNumber writtenNext writtenBytes callAs
 returns c =
     let is = sym (c .before .before .before .before .before .before .before .before .before .before .new-of .ensures) ∙ c .before .before .before .before .before .before .before .before .new .given .1 in
     let said = c .before .before .before .before .write .ensures in
     let from = c .before .before .before .before .before .before .at .ensures in
     let says = from-place _ _ (said .0) from in (
       rw is (c .number-of .ensures ∙ ap (λ (w : Written). verdictNumber (w .verdict)) says),
-      (rw is (ap (λ (w : Written). w .position .at) says), rw is (rw (sym from) (said .1 .0))),
+      (rw is (ap (λ (w : Written). w .position .at) says), (rw is (rw (sym from) (said .1 .0)), rw is (also (said .1 .1) none))),
     )
 
 returns-2 : tie.Need-returns-2
-unfolding given writtenNumber writtenNext writtenBytes
+unfolding given writtenNumber writtenNext writtenBytes callAs
 returns-2 c =
     let is = sym (c .before .before .new-of .ensures) ∙ c .enum-told .given .1 in
-    (rw is, (rw is, rw is))
+    (rw is, (rw is, (rw is, rw is none)))
 
 pub aglimtaq-write-spec : {M : Type 1} → statement M
 aglimtaq-write-spec =
