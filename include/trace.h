@@ -6,13 +6,14 @@
  * - It ends.
  * - It reads the bytes that it is lent and no others.
  * - It writes what its last argument points to, if that is a pointer: all of it at every call, and nothing else.
- *   Two write more: a walk writes its last three arguments, and aglimtaq_write writes a record into `out`.
+ *   Three write more: a walk writes its last three arguments, aglimtaq_write writes a record into `out`, and
+ *   aglimtaq_write_all writes a list of records into it.
  *
  * A function allocates nothing and keeps nothing. It may run in several threads at once, each with a struct
  * and an output of its own.
  *
- * A pointer to bytes is followed by their number. Nobody may alter the bytes during the call. No pointer is
- * NULL, not even where the number is 0. What is written overlaps nothing else that is lent.
+ * A pointer to bytes or to calls is followed by their number. Nobody may alter them during the call. No pointer
+ * is NULL, not even where the number is 0. What is written overlaps nothing else that is lent.
  *
  * docs/FORMAT.md describes the format. A part is a range of the lent bytes, from `start` up to, but without,
  * the byte at `end`.
@@ -184,6 +185,35 @@ struct aglimtaq_record {
  * native register, 32 for a register, a thread, an interrupt or a size, 64 for every other. */
 uint64_t aglimtaq_write(uint8_t *out, size_t room, size_t position, const struct aglimtaq_record *record,
                         const uint8_t *bytes, size_t length, uint64_t *next);
+
+/* A call of aglimtaq_write in a list: its record, and the number of its bytes. */
+struct aglimtaq_call {
+    uint64_t type;       /* as in struct aglimtaq_record */
+    uint64_t numbers[3];
+    uint64_t length;     /* how many bytes it takes from the bytes of the list */
+};
+
+/* What a list of calls leaves. */
+struct aglimtaq_all {
+    uint64_t position; /* after the last record written */
+    uint64_t records;  /* how many records were written */
+    uint64_t bytes;    /* how many bytes their calls took */
+};
+
+/* Writes a list of records, the first of them at `position` of `out`: makes the `count` calls, each as
+ * aglimtaq_write makes it, until one is refused. The bytes of the first call come first in `bytes`, then those
+ * of the second, and so on. A call takes its bytes also where its type ignores them. Bytes after those of the
+ * last call are ignored.
+ *
+ * Returns 0 where all records are written; or why the first call is refused that is. NOT_A_RECORD is also given
+ * where fewer than its `length` bytes are left. The records before it are written. Of the refused one and of
+ * those after it nothing is written, and no other byte of `out` is altered.
+ *
+ * To go on after a refusal, hand over the calls from `calls + all.records` on and the bytes from
+ * `bytes + all.bytes` on, at `all.position`. The first of these calls is the refused one: give it what it lacks,
+ * or leave it out with its bytes. */
+uint64_t aglimtaq_write_all(uint8_t *out, size_t room, size_t position, const struct aglimtaq_call *calls,
+                            size_t count, const uint8_t *bytes, size_t length, struct aglimtaq_all *all);
 
 #ifdef __cplusplus
 }

@@ -3,14 +3,21 @@
 #include "trace.h"
 
 #include <stdio.h>
+#include <string.h>
 
-enum { RECORDS = 20000, ROOM = 1 << 20 };
+enum { RECORDS = 20000, ROOM = 1 << 20, LONGEST = 15 };
 
 static uint8_t out[ROOM];
 static uint64_t length;
 static uint8_t given[64];
 static struct aglimtaq_record records[RECORDS];
 static size_t sizes[RECORDS];
+
+/* The same records as one list, and what was written of them one by one. */
+static struct aglimtaq_call calls[RECORDS];
+static uint8_t slices[RECORDS * LONGEST];
+static size_t taken;
+static uint8_t one_by_one[ROOM];
 
 /* Numbers that look random and are the same in every run. */
 static uint32_t next_number(void)
@@ -32,6 +39,16 @@ static void make(int i)
     sizes[i] = type == AGLIMTAQ_INSTRUCTION                                     ? 2 + next_number() % 14
                : type == AGLIMTAQ_MEM_READ || type == AGLIMTAQ_MEM_WRITE ? (size_t)1 << next_number() % 4
                                                                                  : 8;
+}
+
+/* Adds a record to the list. */
+static void list(int i)
+{
+    calls[i].type = records[i].type;
+    memcpy(calls[i].numbers, records[i].numbers, sizeof calls[i].numbers);
+    calls[i].length = sizes[i];
+    memcpy(slices + taken, given, sizes[i]);
+    taken += sizes[i];
 }
 
 __attribute__((noinline)) int work_c(void)
@@ -84,13 +101,30 @@ __attribute__((noinline)) int work_f(void)
     return shown == RECORDS && r.answer == AGLIMTAQ_FINISHED;
 }
 
+__attribute__((noinline)) int work_g(void)
+{
+    struct aglimtaq_all all;
+    return aglimtaq_write_all(out, ROOM, 0, calls, RECORDS, slices, taken, &all) == 0 && all.records == RECORDS &&
+           all.position == length && all.bytes == taken;
+}
+
+/* Writes the list where nothing is written yet: it must leave what the calls one by one left. */
+static int same_by_list(void)
+{
+    memcpy(one_by_one, out, sizeof out);
+    memset(out, 0, sizeof out);
+    return work_g() && memcmp(one_by_one, out, sizeof out) == 0;
+}
+
 int main(void)
 {
     for (int i = 0; i < 64; i++)
         given[i] = (uint8_t)('a' + i % 26);
-    for (int i = 0; i < RECORDS; i++)
+    for (int i = 0; i < RECORDS; i++) {
         make(i);
-    if (!work_c() || !work_a() || !work_b() || !work_d() || !work_e() || !work_f()) {
+        list(i);
+    }
+    if (!work_c() || !work_a() || !work_b() || !work_d() || !work_e() || !work_f() || !same_by_list()) {
         fprintf(stderr, "the records are not all written, read or counted\n");
         return 1;
     }

@@ -1,4 +1,4 @@
-//! What both sides answer, and what is written. The four structs are laid out as in include/trace.h, where each field is explained.
+//! What both sides answer, and what is written. The six structs are laid out as in include/trace.h, where each field is explained.
 
 pub const SHOWN: u64 = 0;
 pub const REFUSED_AT: u64 = 1;
@@ -45,6 +45,23 @@ pub struct Entry {
 pub struct FlatRecord {
     pub record_type: u64,
     pub numbers: [u64; 3],
+}
+
+/// `struct aglimtaq_call`: a record, and how many bytes are handed over with it.
+#[repr(C)]
+#[derive(Clone, Copy, Debug, Default, PartialEq, Eq)]
+pub struct Call {
+    pub record: FlatRecord,
+    pub length: u64,
+}
+
+/// `struct aglimtaq_all`.
+#[repr(C)]
+#[derive(Clone, Copy, Debug, Default, PartialEq, Eq)]
+pub struct All {
+    pub position: u64,
+    pub records: u64,
+    pub bytes: u64,
 }
 
 /// What `value` gives: 0 and a part, or a refusal and a part of zeros.

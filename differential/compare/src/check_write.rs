@@ -2,7 +2,7 @@
 
 use crate::ours;
 use crate::tally::Tally;
-use compare::answer::FlatRecord;
+use compare::answer::{All, Call, FlatRecord};
 use compare::given::Given;
 use compare::hex::tokens;
 use compare::source::{self, Said};
@@ -52,17 +52,26 @@ fn too_little(position: usize, length: usize, tally: &mut Tally) -> (usize, usiz
     ])
 }
 
-/// Each record at the position that ours handed back, up to the first difference.
-fn write_row(row: &[Given], mut position: usize, room: usize, tally: &mut Tally) {
-    let mut output = Output::new(position, room, tally);
-    for given in row {
+/// Each record at the position that ours handed back, up to the first difference; and all by one call, which must leave
+/// what the single calls leave up to the first that is refused.
+fn write_row(row: &[Given], first: usize, room: usize, tally: &mut Tally) {
+    let mut output = Output::new(first, room, tally);
+    let (mut position, mut one_call) = (first, false);
+    for (before, given) in row.iter().enumerate() {
         tally.begin(&given.bytes);
-        let next = output.write(given, position, tally);
+        let written = output.write(given, position, tally);
         tally.end(&given.bytes);
-        match next {
-            Some(next) => position = next,
-            None => return,
+        let Some((number, next)) = written else {
+            return;
+        };
+        if number != 0 && !one_call {
+            output.write_all(row, first, (number, before, position), tally);
+            one_call = true;
         }
+        position = next;
+    }
+    if !one_call {
+        output.write_all(row, first, (0, row.len(), position), tally);
     }
 }
 
@@ -83,8 +92,8 @@ impl Output {
         Output { room, trace: before.into(), now: must.clone(), must }
     }
 
-    /// Writes one record; the next position, where all is as it must be.
-    fn write(&mut self, given: &Given, position: usize, tally: &mut Tally) -> Option<usize> {
+    /// Writes one record; what was said and the next position, where all is as it must be.
+    fn write(&mut self, given: &Given, position: usize, tally: &mut Tally) -> Option<(u64, usize)> {
         let said = write(given, self.room, position, &mut self.trace);
         let frame = self.trace.get(position..).unwrap_or(&[]);
         let next = position + frame.len();
@@ -102,7 +111,35 @@ impl Output {
         let says = Written { number: said.says, next: next as u64, record: given.record, out: &self.must };
         let what = format_args!("write {:?} into {} bytes, position", given.record, self.room);
         let said = Said { says, outside: said.outside };
-        tally.hold(what, position as u64, &said, &ours).then_some(next)
+        tally.hold(what, position as u64, &said, &ours).then_some((number, next))
+    }
+
+    /// Writes the whole row by one call. The single calls said `number` after `records` records, which end at `end`; no
+    /// byte was written since.
+    fn write_all(
+        &self,
+        row: &[Given],
+        first: usize,
+        (number, records, end): (u64, usize, usize),
+        tally: &mut Tally,
+    ) {
+        let call = |given: &Given| Call { record: given.record, length: given.bytes.len() as u64 };
+        let calls: Vec<Call> = row.iter().map(call).collect();
+        let bytes = row.iter().map(|given| &given.bytes[..]).collect::<Vec<_>>().concat();
+        let used = calls[..records].iter().map(|call| call.length).sum();
+        let all = All { position: end as u64, records: records as u64, bytes: used };
+        // Before the call, every byte that is to be written has another value.
+        let mut now = self.must.clone();
+        if first < end {
+            now[AROUND + first..AROUND + end].iter_mut().for_each(|byte| *byte = !*byte);
+        }
+        let (mut lent, mut taken) = (calls.clone(), bytes.clone());
+        let (ours_number, ours_all) = ours::write_all(&mut now, AROUND, first, &mut lent, &mut taken);
+        let (lent, taken) = (black_box(lent), black_box(taken));
+        let ours = AllWritten { number: ours_number, all: ours_all, calls: &lent, bytes: &taken, out: &now };
+        let says = AllWritten { number, all, calls: &calls, bytes: &bytes, out: &self.must };
+        let what = format_args!("write {} records into {} bytes, position", row.len(), self.room);
+        tally.one_call(&bytes, what, first as u64, &says, &ours);
     }
 }
 
@@ -120,5 +157,23 @@ impl Debug for Written<'_> {
         let Written { number, next, record, out } = self;
         write!(f, "{number}, next {next}, {record:?}, output with {AROUND} bytes around it ")?;
         f.write_str(&tokens(out))
+    }
+}
+
+/// The state after one call for a row.
+#[derive(PartialEq)]
+struct AllWritten<'a> {
+    number: u64,
+    all: All,
+    calls: &'a [Call],
+    bytes: &'a [u8],
+    out: &'a [u8],
+}
+
+impl Debug for AllWritten<'_> {
+    fn fmt(&self, f: &mut Formatter) -> std::fmt::Result {
+        let AllWritten { number, all, calls, bytes, out } = self;
+        write!(f, "{number}, {all:?}, {calls:?}, bytes {}, ", tokens(bytes))?;
+        write!(f, "output with {AROUND} bytes around it {}", tokens(out))
     }
 }

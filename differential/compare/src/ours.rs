@@ -1,7 +1,7 @@
 //! What the proved codec answers, by the C interface of include/trace.h.
 
 use crate::whole::Whole;
-use compare::answer::{Answer, Entry, FlatRecord, Part, Value};
+use compare::answer::{All, Answer, Call, Entry, FlatRecord, Part, Value};
 
 extern "C" {
     fn aglimtaq_read_next(bytes: *const u8, length: usize, position: usize, reading: *mut Answer);
@@ -22,6 +22,16 @@ extern "C" {
         bytes: *const u8,
         length: usize,
         next: *mut u64,
+    ) -> u64;
+    fn aglimtaq_write_all(
+        out: *mut u8,
+        room: usize,
+        position: usize,
+        calls: *const Call,
+        count: usize,
+        bytes: *const u8,
+        length: usize,
+        all: *mut All,
     ) -> u64;
 }
 
@@ -122,4 +132,22 @@ pub fn write(
         aglimtaq_write(lent, room, position, record, bytes.as_ptr(), bytes.len(), &mut next)
     };
     (number, next)
+}
+
+/// What writing a list says, and what it leaves. The output is `out` without `around` bytes on each side.
+pub fn write_all(
+    out: &mut [u8],
+    around: usize,
+    position: usize,
+    calls: &mut [Call],
+    bytes: &mut [u8],
+) -> (u64, All) {
+    let (room, x) = (out.len() - 2 * around, UNWRITTEN);
+    let mut all = All { position: x, records: x, bytes: x };
+    let number = unsafe {
+        let lent = out.as_mut_ptr().add(around);
+        let (from, count) = (calls.as_mut_ptr(), calls.len());
+        aglimtaq_write_all(lent, room, position, from, count, bytes.as_mut_ptr(), bytes.len(), &mut all)
+    };
+    (number, all)
 }

@@ -28,6 +28,7 @@ const REASONS: [(Outside, &str); 16] = [
 
 const ORIGINAL: &str = "the original";
 const DOCUMENT: &str = "document 01";
+const SINGLE_CALLS: &str = "single calls";
 
 #[derive(Default)]
 pub struct Tally {
@@ -42,6 +43,8 @@ pub struct Tally {
     outside: u64,
     /// Answers of ours to an offset beyond the end, which the original has no calls for.
     beyond: u64,
+    /// Rows of records that ours also wrote by one call, compared with what its single calls left.
+    rows: u64,
     differences: u64,
     first: Option<String>,
     input: Vec<u8>,
@@ -119,6 +122,21 @@ impl Tally {
         self.equal(&what, at, DOCUMENT, says, ours);
     }
 
+    /// Compares what one call left of a row with what the single calls must leave. The bytes of the row are `bytes`.
+    pub fn one_call<T: PartialEq + Debug>(
+        &mut self,
+        bytes: &[u8],
+        what: impl Display,
+        at: u64,
+        says: &T,
+        ours: &T,
+    ) {
+        self.rows += 1;
+        self.input.clear();
+        self.input.extend_from_slice(bytes);
+        self.equal(&what, at, SINGLE_CALLS, says, ours);
+    }
+
     fn equal<T>(&mut self, what: &dyn Display, at: u64, who: &str, says: &T, ours: &T) -> bool
     where
         T: PartialEq + Debug,
@@ -152,29 +170,31 @@ impl Tally {
         self.unframed += other.unframed;
         self.outside += other.outside;
         self.beyond += other.beyond;
+        self.rows += other.rows;
         self.differences += other.differences;
         self.first = self.first.take().or(other.first);
     }
 
     pub fn header() -> String {
-        let counts = ["inputs", "inside", "compared", "unframed", "outside", "beyond", "differences"];
+        let counts = ["inputs", "inside", "compared", "unframed", "outside", "beyond", "rows", "differences"];
         row("class", counts, "inputs not inside, by reason")
     }
 
     pub fn line(&self, name: &str) -> String {
         let inside = self.inputs - self.reasons.iter().sum::<u64>();
-        let Tally { inputs, compared, unframed, outside, beyond, differences, .. } = *self;
-        let counts = [inputs, inside, compared, unframed, outside, beyond, differences];
+        let Tally { inputs, compared, unframed, outside, beyond, rows, differences, .. } = *self;
+        let counts = [inputs, inside, compared, unframed, outside, beyond, rows, differences];
         let named = REASONS.iter().zip(self.reasons).filter(|(_, count)| *count > 0);
         let reasons: Vec<String> = named.map(|((_, reason), count)| format!("{count} {reason}")).collect();
         row(name, counts, &reasons.join(", "))
     }
 }
 
-fn row<T: Display>(name: &str, counts: [T; 7], reasons: &str) -> String {
-    let [inputs, inside, compared, unframed, outside, beyond, differences] = counts;
-    let counted =
-        format!("{inputs:>10} {inside:>10} {compared:>11} {unframed:>11} {outside:>9} {beyond:>11}");
+fn row<T: Display>(name: &str, counts: [T; 8], reasons: &str) -> String {
+    let [inputs, inside, compared, unframed, outside, beyond, rows, differences] = counts;
+    let counted = format!(
+        "{inputs:>10} {inside:>10} {compared:>11} {unframed:>11} {outside:>9} {beyond:>11} {rows:>9}"
+    );
     let row = format!("{name:<17} {counted} {differences:>11}  {reasons}");
     row.trim_end().into()
 }

@@ -16,7 +16,7 @@ use race::{race, ROUNDS};
 use stage::{Input, Stage};
 use std::process::ExitCode;
 use tasks::{Task, OURS, WALKS, WORKLOADS};
-use trace::{cut, originals, room, Plan};
+use trace::{calls, cut, originals, room, Plan};
 
 const MIB: usize = 1 << 20;
 
@@ -56,10 +56,11 @@ fn staged<T>(amount: Amount, work: impl FnOnce(&mut Stage) -> T) -> T {
     let trace = trace::trace(amount.trace);
     let plan = Plan::new(amount.records);
     let given = plan.given();
+    let calls = calls(&given);
     let records = originals(&given);
     let names: Vec<Names> = (0..SETS).map(|set| Names::new(set, amount.names)).collect();
     let names: Vec<Vec<&[u8]>> = names.iter().map(|set| set.all()).collect();
-    let mut stage = Stage::new(&trace, &given, &records, &names, room(&records));
+    let mut stage = Stage::new(&trace, &given, plan.list(&calls), &records, &names, room(&records));
     work(&mut stage)
 }
 

@@ -1,7 +1,7 @@
 //! The proved codec's side of each workload, by the C interface of include/trace.h.
 
 use crate::stage::{Stage, Tally, COUNT, END, KINDS};
-use compare::answer::{Answer, FlatRecord, REFUSED_AT, SHOWN};
+use compare::answer::{All, Answer, Call, FlatRecord, REFUSED_AT, SHOWN};
 use std::hint::black_box;
 
 extern "C" {
@@ -19,6 +19,16 @@ extern "C" {
         bytes: *const u8,
         length: usize,
         next: *mut u64,
+    ) -> u64;
+    fn aglimtaq_write_all(
+        out: *mut u8,
+        room: usize,
+        position: usize,
+        calls: *const Call,
+        count: usize,
+        bytes: *const u8,
+        length: usize,
+        all: *mut All,
     ) -> u64;
 }
 
@@ -77,6 +87,18 @@ pub extern "C" fn speed_f_ours(stage: &mut Stage) {
 #[inline(never)]
 pub extern "C" fn speed_f_back_ours(stage: &mut Stage) {
     calls(stage, stage.trace.len(), aglimtaq_read_previous);
+}
+
+#[no_mangle]
+#[inline(never)]
+pub extern "C" fn speed_g_ours(stage: &mut Stage) {
+    let (out, room) = (stage.out.as_mut_ptr(), stage.out.len());
+    let ((calls, bytes), mut all) = (stage.list, All::default());
+    unsafe {
+        aglimtaq_write_all(out, room, 0, calls.as_ptr(), calls.len(), bytes.as_ptr(), bytes.len(), &mut all)
+    };
+    stage.answer[END] = all.position;
+    stage.answer[COUNT] = all.records;
 }
 
 /// One call for the whole trace. What it counts lies where `Tally` has it.

@@ -1,6 +1,7 @@
 //! What the tasks work on: inputs and outputs, made and touched before any task is timed.
 
-use compare::answer::FlatRecord;
+use crate::tasks::{Task, OURS};
+use compare::answer::{Call, FlatRecord};
 use dynamic_trace::record::Record;
 use dynamic_trace::TraceBuffer;
 
@@ -15,6 +16,9 @@ pub const KINDS: usize = 11;
 
 /// A record to be written, and the bytes that are handed over with it.
 pub type Given<'a> = (FlatRecord, &'a [u8]);
+
+/// Calls that write records, and the bytes of all of them, one after the other.
+pub type List<'a> = (&'a [Call], &'a [u8]);
 
 /// Which of the inputs a workload takes.
 #[derive(Clone, Copy, PartialEq)]
@@ -34,8 +38,9 @@ pub struct Size {
 
 pub struct Stage<'a> {
     pub trace: &'a [u8],
-    /// The same records twice, as each side takes them.
+    /// The same records three times: as ours takes each, as it takes all at once, and as the original takes them.
     pub given: &'a [Given<'a>],
+    pub list: List<'a>,
     pub records: &'a [Record<'a>],
     /// The sets of names, and the one that is in use.
     pub sets: &'a [Vec<&'a [u8]>],
@@ -54,18 +59,35 @@ impl<'a> Stage<'a> {
     pub fn new(
         trace: &'a [u8],
         given: &'a [Given<'a>],
+        list: List<'a>,
         records: &'a [Record<'a>],
         sets: &'a [Vec<&'a [u8]>],
         room: usize,
     ) -> Self {
         let (out, mut emitted) = (vec![1; room.max(trace.len())], vec![1; room]);
         emitted.clear();
-        Stage { trace, given, records, sets, names: &[], out, emitted, room, answer: [0; 75] }
+        Stage { trace, given, list, records, sets, names: &[], out, emitted, room, answer: [0; 75] }
     }
 
     pub fn choose(&mut self, input: Input) {
         if let Input::Names(set) = input {
             self.names = &self.sets[set];
+        }
+    }
+
+    /// Takes away what was written of an input's records, so that the next task must write them.
+    pub fn wipe(&mut self, input: Input) {
+        if input == Input::Records {
+            self.out.fill(0);
+            self.emitted.clear();
+        }
+    }
+
+    /// What a task has written.
+    pub fn written(&self, task: &Task) -> &[u8] {
+        match task.side {
+            OURS => &self.out[..self.room],
+            _ => &self.emitted,
         }
     }
 

@@ -48,6 +48,7 @@ tasks! {
     F_ORIGINAL: "f", "original", speed_f_original;
     F_LAZY: "f", "lazy", speed_f_lazy;
     F_BACK_OURS: "f_back", OURS, speed_f_back_ours;
+    G_OURS: "g", OURS, speed_g_ours;
     COPY: "copy", "plain", speed_copy;
 }
 
@@ -59,16 +60,14 @@ const fn on_names(name: &'static str, title: &'static str, set: usize, others: O
     Workload { name, title, input: Input::Names(set), ours: &E_OURS, others }
 }
 
-pub static WORKLOADS: [Workload; 11] = [
+const fn on_records(title: &'static str, ours: &'static Task, others: Others) -> Workload {
+    Workload { name: ours.workload, title, input: Input::Records, ours, others }
+}
+
+pub static WORKLOADS: [Workload; 12] = [
     on_trace("frames only", &A_OURS, &[(&A_ORIGINAL, Some(0.5))]),
     on_trace("every record parsed", &B_OURS, &[(&B_ORIGINAL, Some(0.35)), (&B_LAZY, Some(1.0))]),
-    Workload {
-        name: "c",
-        title: "records written",
-        input: Input::Records,
-        ours: &C_OURS,
-        others: &[(&C_ORIGINAL, Some(0.7))],
-    },
+    on_records("records written", &C_OURS, &[(&C_ORIGINAL, Some(0.7))]),
     on_trace("every record parsed, backwards", &D_OURS, &[(&B_OURS, Some(1.2))]),
     on_names("e", "names, ASCII, 32 bytes", ASCII, &[(&E_STD, Some(1.5))]),
     on_names("e_any", "the same, at any address", ASCII_ANYWHERE, &[(&E_STD, None)]),
@@ -77,6 +76,7 @@ pub static WORKLOADS: [Workload; 11] = [
     on_names("e_most", "names, 10 three-byte characters", MOSTLY_OTHERS, &[(&E_STD, None)]),
     on_trace("one call for each record", &F_OURS, &[(&F_ORIGINAL, Some(1.0)), (&F_LAZY, None)]),
     on_trace("one call for each record, backwards", &F_BACK_OURS, &[(&F_OURS, None)]),
+    on_records("records written, one call for all", &G_OURS, &[(&C_ORIGINAL, None), (&C_OURS, None)]),
 ];
 
 /// What is timed on traces that grow, beside a plain copy of them.

@@ -2,8 +2,8 @@
 //! can learn, and the same in every run.
 
 use crate::names;
-use crate::stage::Given;
-use compare::answer::FlatRecord;
+use crate::stage::{Given, List};
+use compare::answer::{Call, FlatRecord};
 use compare::random::Random;
 use compare::writing::made;
 use dynamic_trace::record::{emit_le64, Arch, Record};
@@ -168,6 +168,16 @@ impl Plan {
         };
         self.records.iter().map(piece).collect()
     }
+
+    /// As ours takes all of them at once; the bytes are the same that each is given with.
+    pub fn list<'a>(&'a self, calls: &'a [Call]) -> List<'a> {
+        (calls, &self.data)
+    }
+}
+
+/// A call for each.
+pub fn calls(given: &[Given]) -> Vec<Call> {
+    given.iter().map(|&(record, bytes)| Call { record, length: bytes.len() as u64 }).collect()
 }
 
 /// As the original takes them.
