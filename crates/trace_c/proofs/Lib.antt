@@ -1,2 +1,3 @@
 mod CallLaws
 pub mod Theorem
+pub mod Examples
