@@ -2,8 +2,8 @@
 -- starts at the offset, has bytes, and ends within the trace. Assumes nothing.
 use mathlib.Core.Path.{_≡_, refl, sym, ap, subst, _∙_}
 use mathlib.Core.Bool.{Bool, true, false, cond, false≢true}
-use mathlib.Core.List.{List, [], _∷_, _++_, append-assoc}
-use Prim.Native.Nat.{ℕ, zero, suc, _+_, _-_, _≤_, _<_}
+use mathlib.Core.List.{List, [], _++_, append-assoc}
+use Prim.Native.Nat.{ℕ, suc, _+_, _-_, _≤_, _<_}
 use native.Mathlib.Omega.{arith}
 use lib.ListN.{length, take}
 use Rattle.frames.specs.declared.read.Part.{Part}
@@ -17,6 +17,7 @@ use Rattle.records.specs.Positions.{here, framedIn, readNext}
 use Rattle.records.proofs.AheadLaws.{Ahead, next-ahead}
 use Rattle.records.proofs.PlaceLaws.{handed, next-place}
 use Rattle.walk.specs.Walks.{seen, frames, readings, forth}
+use Rattle.walk.proofs.CompleteLaws.{next-same}
 use Rattle.tracelist.specs.declared.line.Line.{Line}
 use Rattle.tracelist.specs.declared.line.Line.the-variants as line
 use Rattle.tracelist.specs.Listing.{recordLine, lineAs, lineOf, lineText, linesText, listing}
@@ -59,26 +60,6 @@ moves s at e =
     subst (λ (p : Position). (at < p .at) × (p .at ≤ length s)) (sym (next-place s (here at)))
     (moves-as s at (readNext s (here at) .answer) (next-ahead s (here at)) e)
 
--- the readings after a call, where two bounds, one less, give the same readings from every offset
-same-after : (s : List ℕ) (at n m : ℕ) (go : Bool) → length s - at < suc n → length s - at < suc m
-    → ((to : ℕ) → length s - to < n → length s - to < m → readings (readNext s) n (here to) ≡ readings (readNext s) m (here to))
-    → let r = readNext s (here at) in
-    frames (seen r) ≡ go
-    → cond go (readings (readNext s) n (r .position)) [] ≡ cond go (readings (readNext s) m (r .position)) []
-same-after s at n m false h k f e = refl
-same-after s at n m true h k f e =
-    let g = moves s at e in
-    f (readNext s (here at) .position .at) (omega (arith, g .0, g .1, h)) (omega (arith, g .0, g .1, k))
-
--- two bounds that both suffice give the same readings
-same : (s : List ℕ) (at n m : ℕ) → length s - at < n → length s - at < m → readings (readNext s) n (here at) ≡ readings (readNext s) m (here at)
-unfolding readings
-same s at zero m h k = absurd (omega (arith, h))
-same s at (suc n) zero h k = absurd (omega (arith, k))
-same s at (suc n) (suc m) h k =
-    let r : Reading = readNext s (here at) in
-    ap (_∷_ r) (same-after s at n m (frames (seen r)) h k (λ to. same s to n m) refl)
-
 -- what is listed after a call
 listed-after : (s : List ℕ) (at : ℕ) (go : Bool)
     → let r = readNext s (here at) in
@@ -88,7 +69,7 @@ unfolding linesText listedFrom
 listed-after s at false e = refl
 listed-after s at true e =
     let g = moves s at e in
-    ap (linesText s) (same s (readNext s (here at) .position .at) (length s) (suc (length s)) (omega (arith, g .0, g .1)) (omega arith))
+    ap (linesText s) (next-same s (readNext s (here at) .position .at) (length s) (suc (length s)) (g .1) (omega (arith, g .0, g .1)) (omega arith))
 
 -- what is listed is the line of what is at the offset, and what is listed after it
 listed-next : (s : List ℕ) (at : ℕ)
