@@ -6,10 +6,11 @@
  * - It ends.
  * - It reads the bytes that it is lent and no others.
  * - It writes what its last argument points to, if that is a pointer: all of it at every call, and nothing else.
- *   Three write more: a walk writes its last three arguments, aglimtaq_write writes a record into `out`, and
- *   aglimtaq_write_all writes a list of records into it.
+ *   Some write more: a walk writes its last three arguments, a call that takes a position moves it, aglimtaq_write
+ *   writes a record into `out`, and aglimtaq_write_all writes a list of records into it.
+ * - Where a form is none of the four, it writes nothing but that refusal, into a reading or the end of a walk.
  *
- * A function allocates nothing and keeps nothing. It may run in several threads at once, each with a struct
+ * A function allocates nothing and keeps nothing. It may run in several threads at once, each with structs
  * and an output of its own.
  *
  * A pointer to bytes or to calls is followed by their number. Nobody may alter them during the call. No pointer
@@ -27,6 +28,24 @@
 #ifdef __cplusplus
 extern "C" {
 #endif
+
+/* How addresses are stored. A trace has one form, which is not stored in it.
+ *
+ * The form is that of the address of a PC, INSTRUCTION, MEM_READ, MEM_WRITE or MAP, and of both numbers of an UNMAP.
+ * Every other number keeps its width, least significant byte first: the tick of an INTERRUPT too, and the addresses
+ * of kind Meta, which are in the types from INSTRUCTION_COUNT to UNKNOWN_META. */
+enum aglimtaq_form {
+    AGLIMTAQ_LE64 = 0, /* eight bytes, least significant first */
+    AGLIMTAQ_BE64 = 1, /* eight bytes, most significant first */
+    AGLIMTAQ_LE32 = 2, /* four bytes, least significant first */
+    AGLIMTAQ_BE32 = 3  /* four bytes, most significant first */
+};
+
+/* Where a call reads or writes, and in which form. Each call moves `at`, or keeps it; none alters `form`. */
+struct aglimtaq_position {
+    uint64_t at;
+    uint64_t form; /* enum aglimtaq_form */
+};
 
 /* What a reading says. Reading backwards never gives UNFINISHED, and gives FINISHED at position 0. */
 enum aglimtaq_answer {
@@ -53,7 +72,9 @@ enum aglimtaq_refusal {
     AGLIMTAQ_BAD_NAME = 11,     /* a name over 32 bytes, with a zero byte, or that is not UTF-8 */
     AGLIMTAQ_TAKEN_TAG = 12,    /* the tag of an unknown type that another type has */
     AGLIMTAQ_SHORT_LIST = 13,   /* a register list that does not hold its count of entries */
-    AGLIMTAQ_NOT_A_RECORD = 256 /* a type that is not written, or a number that does not fit its type */
+    AGLIMTAQ_WIDE_ADDRESS = 14, /* an address or UNMAP length above 4,294,967,295, to be written in four bytes */
+    AGLIMTAQ_NOT_A_RECORD = 256, /* a type that is not written, or a number that does not fit its type */
+    AGLIMTAQ_NOT_A_FORM = 257   /* a form that is none of the four; this comes before every other refusal */
 };
 
 /* The record types. The comment after each names its numbers, in order; then what its part of the bytes is. */
@@ -90,7 +111,6 @@ enum aglimtaq_type {
 
 /* What a reading gives. A field that an answer does not use is 0. */
 struct aglimtaq_reading {
-    uint64_t position;    /* where the next call reads; kept unless a record was framed */
     uint64_t answer;      /* enum aglimtaq_answer */
     uint64_t number;      /* enum aglimtaq_refusal, or the number wanted */
     uint64_t start;       /* the framed record */
@@ -101,20 +121,22 @@ struct aglimtaq_reading {
     uint64_t bytes_end;
 };
 
-/* The record that starts at `position`. The first call reads at 0, each later one at the position that
- * the call before handed back, until the answer is FINISHED, UNFINISHED or REFUSED. */
-void aglimtaq_read_next(const uint8_t *bytes, size_t length, size_t position,
+/* The record that starts at the position. The first call reads at 0, each later one at the position that the call
+ * before left, until the answer is FINISHED, UNFINISHED or REFUSED. Where a record is framed, the position becomes
+ * its end; otherwise it is kept. */
+void aglimtaq_read_next(const uint8_t *bytes, size_t length, struct aglimtaq_position *position,
                         struct aglimtaq_reading *reading);
 
-/* The record that ends at `position`. The first call reads at the end of the trace, each later one at the
- * position that the call before handed back, until the answer is FINISHED or REFUSED. */
-void aglimtaq_read_previous(const uint8_t *bytes, size_t length, size_t position,
+/* The record that ends at the position. The first call reads at the end of the trace, each later one at the
+ * position that the call before left, until the answer is FINISHED or REFUSED. Where a record is framed, the
+ * position becomes its start; otherwise it is kept. */
+void aglimtaq_read_previous(const uint8_t *bytes, size_t length, struct aglimtaq_position *position,
                             struct aglimtaq_reading *reading);
 
-/* The one record that these bytes are. They begin at offset `base` of a trace, and parts are counted from the
- * trace's start. The answer is SHOWN or REFUSED; position, start and end are 0. BEYOND_END where base + length
+/* The one record that these bytes are, in this form. They begin at offset `base` of a trace, and parts are counted
+ * from the trace's start. The answer is SHOWN or REFUSED; start and end are 0. BEYOND_END where base + length
  * overflows. */
-void aglimtaq_parse(const uint8_t *bytes, size_t length, size_t base,
+void aglimtaq_parse(const uint8_t *bytes, size_t length, size_t base, uint64_t form,
                     struct aglimtaq_reading *reading);
 
 /* Returns how many bytes the record has that these bytes begin with. If that is at most `length`, the record
@@ -152,18 +174,19 @@ uint64_t aglimtaq_count(const uint8_t *bytes, size_t length, uint64_t *end);
 struct aglimtaq_end {
     uint64_t position;
     uint64_t wanted;  /* the number wanted there, or 0 */
-    uint64_t refused; /* NO_START, where that ended a walk backwards; or 0 */
+    uint64_t refused; /* NO_START, where that ended a walk backwards; NOT_A_FORM; or 0 */
 };
 
-/* A walk over a whole trace: every reading from 0 on, as aglimtaq_read_next gives them, up to the first that
- * is not SHOWN or REFUSED_AT. counts[0] is how many records are shown, and counts[n] how many are refused with
- * n. sizes[k] is how many bytes the framed records of the kind 4 * k have, shown or refused. */
-void aglimtaq_walk(const uint8_t *bytes, size_t length, uint64_t counts[8], uint64_t sizes[64],
+/* A walk over a whole trace in one form: every reading from 0 on, as aglimtaq_read_next gives them, up to the first
+ * that is not SHOWN or REFUSED_AT. counts[0] is how many records are shown, and counts[n] how many are refused with
+ * n. sizes[k] is how many bytes the framed records of the kind 4 * k have, shown or refused. For a form that is none
+ * of the four, `end` is 0, 0, NOT_A_FORM, and counts and sizes are left as they were. */
+void aglimtaq_walk(const uint8_t *bytes, size_t length, uint64_t form, uint64_t counts[8], uint64_t sizes[64],
                    struct aglimtaq_end *end);
 
 /* The same backwards: every reading from the end on, as aglimtaq_read_previous gives them. */
-void aglimtaq_walk_back(const uint8_t *bytes, size_t length, uint64_t counts[8], uint64_t sizes[64],
-                        struct aglimtaq_end *end);
+void aglimtaq_walk_back(const uint8_t *bytes, size_t length, uint64_t form, uint64_t counts[8],
+                        uint64_t sizes[64], struct aglimtaq_end *end);
 
 /* Returns 1 where the bytes are UTF-8 (RFC 3629), as a function's name must be; else 0. */
 uint64_t aglimtaq_is_utf8(const uint8_t *bytes, size_t length);
@@ -174,17 +197,18 @@ struct aglimtaq_record {
     uint64_t numbers[3]; /* its numbers, in order */
 };
 
-/* Writes a record at `position` of `out`; the first call writes at 0. The record's name, register list or
+/* Writes a record at the position in `out`; the first call writes at 0. The record's name, register list or
  * contents are the `length` bytes at `bytes`; a type that has none of these ignores them.
  *
- * Returns 0, and in `next` the position after the record, where the next call writes. Or returns why the record
- * is refused, and in `next` the same position; then no byte of `out` is altered. Of several reasons the first in
- * this order is given: NOT_A_RECORD; BEYOND_END; BAD_NAME, TAKEN_TAG or SHORT_LIST; LONG_CONTENT; NO_ROOM.
+ * Returns 0, and the position becomes that after the record, where the next call writes. Or returns why the record
+ * is refused; then the position is kept, and no byte of `out` is altered. Of several reasons the first in this order
+ * is given: NOT_A_FORM; NOT_A_RECORD; BEYOND_END; BAD_NAME, TAKEN_TAG or SHORT_LIST; WIDE_ADDRESS; LONG_CONTENT;
+ * NO_ROOM.
  *
  * NOT_A_RECORD is also given where a number has more bits than its type allows: 8 for a count or a tag, 16 for a
  * native register, 32 for a register, a thread, an interrupt or a size, 64 for every other. */
-uint64_t aglimtaq_write(uint8_t *out, size_t room, size_t position, const struct aglimtaq_record *record,
-                        const uint8_t *bytes, size_t length, uint64_t *next);
+uint64_t aglimtaq_write(uint8_t *out, size_t room, struct aglimtaq_position *position,
+                        const struct aglimtaq_record *record, const uint8_t *bytes, size_t length);
 
 /* A call of aglimtaq_write in a list: its record, and the number of its bytes. */
 struct aglimtaq_call {
@@ -193,27 +217,28 @@ struct aglimtaq_call {
     uint64_t length;     /* how many bytes it takes from the bytes of the list */
 };
 
-/* What a list of calls leaves. */
+/* What was written of a list of calls. */
 struct aglimtaq_all {
-    uint64_t position; /* after the last record written */
-    uint64_t records;  /* how many records were written */
-    uint64_t bytes;    /* how many bytes their calls took */
+    uint64_t records; /* how many records were written */
+    uint64_t bytes;   /* how many bytes their calls took */
 };
 
-/* Writes a list of records, the first of them at `position` of `out`: makes the `count` calls, each as
+/* Writes a list of records, the first of them at the position in `out`: makes the `count` calls, each as
  * aglimtaq_write makes it, until one is refused. The bytes of the first call come first in `bytes`, then those
  * of the second, and so on. A call takes its bytes also where its type ignores them. Bytes after those of the
  * last call are ignored.
  *
  * Returns 0 where all records are written; or why the first call is refused that is. NOT_A_RECORD is also given
- * where fewer than its `length` bytes are left. The records before it are written. Of the refused one and of
- * those after it nothing is written, and no other byte of `out` is altered.
+ * where fewer than its `length` bytes are left; NOT_A_FORM also where there are no calls. The records before the
+ * refused one are written, and the position is that after them. Of the refused one and of those after it nothing
+ * is written, and no other byte of `out` is altered.
  *
- * To go on after a refusal, hand over the calls from `calls + all.records` on and the bytes from
- * `bytes + all.bytes` on, at `all.position`. The first of these calls is the refused one: give it what it lacks,
- * or leave it out with its bytes. */
-uint64_t aglimtaq_write_all(uint8_t *out, size_t room, size_t position, const struct aglimtaq_call *calls,
-                            size_t count, const uint8_t *bytes, size_t length, struct aglimtaq_all *all);
+ * To go on after a refusal, hand over the calls from `calls + all.records` on, the bytes from `bytes + all.bytes`
+ * on, and the position as it was left. The first of these calls is the refused one: give it what it lacks, or
+ * leave it out with its bytes. */
+uint64_t aglimtaq_write_all(uint8_t *out, size_t room, struct aglimtaq_position *position,
+                            const struct aglimtaq_call *calls, size_t count, const uint8_t *bytes, size_t length,
+                            struct aglimtaq_all *all);
 
 #ifdef __cplusplus
 }

@@ -17,14 +17,20 @@ static void print_bytes(const char *name, uint64_t length)
 }
 
 /* Writes a record at an offset of the output, and returns the offset after it. Prints a refusal. */
-static uint64_t put(uint64_t at, uint64_t type, uint64_t first, uint64_t second, const void *bytes, size_t length)
+static uint64_t put_in(uint64_t form, uint64_t at, uint64_t type, uint64_t first, uint64_t second, const void *bytes,
+                       size_t length)
 {
     struct aglimtaq_record record = {type, {first, second, 0}};
-    uint64_t next = 0;
-    uint64_t answer = aglimtaq_write(out, sizeof out, at, &record, bytes, length, &next);
+    struct aglimtaq_position position = {at, form};
+    uint64_t answer = aglimtaq_write(out, sizeof out, &position, &record, bytes, length);
     if (answer != 0)
         printf("type %llu refused with %llu\n", (unsigned long long)type, (unsigned long long)answer);
-    return next;
+    return position.at;
+}
+
+static uint64_t put(uint64_t at, uint64_t type, uint64_t first, uint64_t second, const void *bytes, size_t length)
+{
+    return put_in(AGLIMTAQ_LE64, at, type, first, second, bytes, length);
 }
 
 static void example(const char *name, uint64_t type, uint64_t first, uint64_t second, const void *bytes,
@@ -58,6 +64,10 @@ int main(void)
     memset(filled, 0x90, sizeof filled);
     example("magic", AGLIMTAQ_MAGIC, 0, 0, "", 0);
     example("instruction", AGLIMTAQ_INSTRUCTION, 0x1000, 0, "", 0);
+    print_bytes("instruction-be64", put_in(AGLIMTAQ_BE64, 0, AGLIMTAQ_INSTRUCTION, 0x1000, 0, "", 0));
+    print_bytes("instruction-le32", put_in(AGLIMTAQ_LE32, 0, AGLIMTAQ_INSTRUCTION, 0x1000, 0, "", 0));
+    print_bytes("instruction-be32", put_in(AGLIMTAQ_BE32, 0, AGLIMTAQ_INSTRUCTION, 0x1000, 0, "", 0));
+    print_bytes("unmap-be32", put_in(AGLIMTAQ_BE32, 0, AGLIMTAQ_UNMAP, 0x2000, 0x100, "", 0));
     example("interrupt", AGLIMTAQ_INTERRUPT, 3, 258, "", 0);
     example("map", AGLIMTAQ_MAP, 0x2000, 0, "", 0);
     example("call-begin", AGLIMTAQ_CALL_BEGIN, 0x1000, 0, "\xe2\x82\xac", 3);

@@ -34,10 +34,11 @@ int main(int argc, char **argv)
     size_t length = fread(bytes, 1, sizeof bytes, file);
     fclose(file);
 
-    struct aglimtaq_reading r = {0};
+    struct aglimtaq_position position = {0, AGLIMTAQ_LE64};
+    struct aglimtaq_reading r;
     struct aglimtaq_part names = {0, 0};
     for (;;) {
-        aglimtaq_read_next(bytes, length, r.position, &r);
+        aglimtaq_read_next(bytes, length, &position, &r);
         if (r.answer != AGLIMTAQ_SHOWN && r.answer != AGLIMTAQ_REFUSED_AT)
             break;
         if (list_record(&r)) {
@@ -46,9 +47,9 @@ int main(int argc, char **argv)
         }
     }
     if (r.answer == AGLIMTAQ_FINISHED)
-        printf("end %llu\n", (unsigned long long)r.position);
+        printf("end %llu\n", (unsigned long long)position.at);
     else
-        printf("unfinished %llu %llu\n", (unsigned long long)r.position, (unsigned long long)r.number);
+        printf("unfinished %llu %llu\n", (unsigned long long)position.at, (unsigned long long)r.number);
     list_names(bytes + names.start, names.end - names.start);
     return 0;
 }

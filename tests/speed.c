@@ -1,5 +1,6 @@
 /* Work for counting instructions through include/trace.h: a mix of records is written, and their trace is read in each
- * way. Each workload of docs/SPEED.md is one function, named after it. Prints how many records there are. */
+ * way. Each workload of docs/SPEED.md is one function, named after it. Takes the address form as a digit. Prints how
+ * many records there are. */
 #include "trace.h"
 
 #include <stdio.h>
@@ -7,6 +8,7 @@
 
 enum { RECORDS = 20000, ROOM = 1 << 20, LONGEST = 15 };
 
+static uint64_t form;
 static uint8_t out[ROOM];
 static uint64_t length;
 static uint8_t given[64];
@@ -53,10 +55,11 @@ static void list(int i)
 
 __attribute__((noinline)) int work_c(void)
 {
-    length = 0;
+    struct aglimtaq_position position = {0, form};
     for (int i = 0; i < RECORDS; i++)
-        if (aglimtaq_write(out, ROOM, length, &records[i], given, sizes[i], &length) != 0)
+        if (aglimtaq_write(out, ROOM, &position, &records[i], given, sizes[i]) != 0)
             return 0;
+    length = position.at;
     return 1;
 }
 
@@ -70,7 +73,7 @@ __attribute__((noinline)) int work_b(void)
 {
     uint64_t counts[8], kinds[64];
     struct aglimtaq_end end;
-    aglimtaq_walk(out, length, counts, kinds, &end);
+    aglimtaq_walk(out, length, form, counts, kinds, &end);
     return counts[0] == RECORDS && end.position == length;
 }
 
@@ -78,7 +81,7 @@ __attribute__((noinline)) int work_d(void)
 {
     uint64_t counts[8], kinds[64];
     struct aglimtaq_end end;
-    aglimtaq_walk_back(out, length, counts, kinds, &end);
+    aglimtaq_walk_back(out, length, form, counts, kinds, &end);
     return counts[0] == RECORDS && end.position == 0;
 }
 
@@ -92,10 +95,11 @@ __attribute__((noinline)) int work_e(void)
 
 __attribute__((noinline)) int work_f(void)
 {
-    struct aglimtaq_reading r = {0};
+    struct aglimtaq_position position = {0, form};
+    struct aglimtaq_reading r;
     int shown = -1;
     do {
-        aglimtaq_read_next(out, length, r.position, &r);
+        aglimtaq_read_next(out, length, &position, &r);
         shown++;
     } while (r.answer == AGLIMTAQ_SHOWN);
     return shown == RECORDS && r.answer == AGLIMTAQ_FINISHED;
@@ -103,9 +107,10 @@ __attribute__((noinline)) int work_f(void)
 
 __attribute__((noinline)) int work_g(void)
 {
+    struct aglimtaq_position position = {0, form};
     struct aglimtaq_all all;
-    return aglimtaq_write_all(out, ROOM, 0, calls, RECORDS, slices, taken, &all) == 0 && all.records == RECORDS &&
-           all.position == length && all.bytes == taken;
+    return aglimtaq_write_all(out, ROOM, &position, calls, RECORDS, slices, taken, &all) == 0 &&
+           all.records == RECORDS && position.at == length && all.bytes == taken;
 }
 
 /* Writes the list where nothing is written yet: it must leave what the calls one by one left. */
@@ -116,8 +121,13 @@ static int same_by_list(void)
     return work_g() && memcmp(one_by_one, out, sizeof out) == 0;
 }
 
-int main(void)
+int main(int argc, char **argv)
 {
+    if (argc != 2 || argv[1][0] < '0' || argv[1][0] > '3') {
+        fprintf(stderr, "usage: speed 0|1|2|3\n");
+        return 2;
+    }
+    form = (uint64_t)(argv[1][0] - '0');
     for (int i = 0; i < 64; i++)
         given[i] = (uint8_t)('a' + i % 26);
     for (int i = 0; i < RECORDS; i++) {

@@ -6,7 +6,7 @@
 #include <string.h>
 
 #define ROOM 110
-#define BEHIND 16 /* bytes after the lent ones, which stay as they are */
+#define AFTER 16 /* bytes after the lent ones, which stay as they are */
 #define COUNT(array) (sizeof(array) / sizeof(array)[0])
 
 /* A write call: the record, its bytes, what is to be answered, and how many bytes the record has. */
@@ -43,7 +43,7 @@ static const struct call calls[] = {
     {{AGLIMTAQ_CALL_MODELED_OPS_END, {0, 0, 0}}, "", 0, AGLIMTAQ_NO_ROOM, 0},
 };
 
-static uint8_t out[ROOM + BEHIND];
+static uint8_t out[ROOM + AFTER];
 static int wrong;
 
 static void expect(const char *what, size_t which, uint64_t is, uint64_t due)
@@ -60,13 +60,14 @@ static uint64_t write_one(size_t which, uint64_t at)
 {
     const struct call *call = &calls[which];
     uint8_t before[sizeof out];
-    uint64_t next = 12345;
+    struct aglimtaq_position position = {at, AGLIMTAQ_LE64};
     memcpy(before, out, sizeof out);
-    uint64_t answer = aglimtaq_write(out, ROOM, at, &call->record, call->bytes, call->length, &next);
+    uint64_t answer = aglimtaq_write(out, ROOM, &position, &call->record, call->bytes, call->length);
     expect("the answer of writing", which, answer, call->answer);
-    expect("the place behind", which, next, at + call->size);
+    expect("the position after", which, position.at, at + call->size);
+    expect("the form after", which, position.form, AGLIMTAQ_LE64);
     expect("bytes altered before", which, memcmp(before, out, at) != 0, 0);
-    expect("bytes altered behind", which,
+    expect("bytes altered after", which,
            memcmp(before + at + call->size, out + at + call->size, sizeof out - at - call->size) != 0, 0);
     return at + call->size;
 }
@@ -89,63 +90,69 @@ static void same_record(const char *way, size_t which, uint64_t at, const struct
 
 static void read_forwards(uint64_t end)
 {
-    struct aglimtaq_reading r = {0};
+    struct aglimtaq_position position = {0, AGLIMTAQ_LE64};
+    struct aglimtaq_reading r;
     uint64_t at = 0;
     for (size_t i = 0; i < COUNT(calls); i++) {
         if (calls[i].answer != 0)
             continue;
-        aglimtaq_read_next(out, end, r.position, &r);
+        aglimtaq_read_next(out, end, &position, &r);
         same_record("read forwards", i, at, &r);
         at += calls[i].size;
-        expect("the position forwards", i, r.position, at);
+        expect("the position forwards", i, position.at, at);
     }
-    aglimtaq_read_next(out, end, r.position, &r);
+    aglimtaq_read_next(out, end, &position, &r);
     expect("the end forwards", COUNT(calls), r.answer, AGLIMTAQ_FINISHED);
-    expect("the end forwards", COUNT(calls), r.position, end);
+    expect("the end forwards", COUNT(calls), position.at, end);
+    expect("the form forwards", COUNT(calls), position.form, AGLIMTAQ_LE64);
 }
 
 static void read_backwards(uint64_t end)
 {
-    struct aglimtaq_reading r = {0};
+    struct aglimtaq_position position = {end, AGLIMTAQ_LE64};
+    struct aglimtaq_reading r;
     uint64_t at = end;
-    r.position = end;
     for (size_t i = COUNT(calls); i-- > 0;) {
         if (calls[i].answer != 0)
             continue;
         at -= calls[i].size;
-        aglimtaq_read_previous(out, end, r.position, &r);
+        aglimtaq_read_previous(out, end, &position, &r);
         same_record("read backwards", i, at, &r);
-        expect("the position backwards", i, r.position, at);
+        expect("the position backwards", i, position.at, at);
     }
-    aglimtaq_read_previous(out, end, r.position, &r);
+    aglimtaq_read_previous(out, end, &position, &r);
     expect("the end backwards", 0, r.answer, AGLIMTAQ_FINISHED);
-    expect("the end backwards", 0, r.position, 0);
+    expect("the end backwards", 0, position.at, 0);
+    expect("the form backwards", 0, position.form, AGLIMTAQ_LE64);
 }
 
 /* The last record has four bytes. First one of them is cut off; then the position is beyond the end. */
 static void read_refused(uint64_t end)
 {
+    struct aglimtaq_position cut = {end - 4, AGLIMTAQ_LE64}, beyond = {end + 1, AGLIMTAQ_LE64};
     struct aglimtaq_reading r;
-    aglimtaq_read_next(out, end - 1, end - 4, &r);
+    aglimtaq_read_next(out, end - 1, &cut, &r);
     expect("a cut record", COUNT(calls), r.answer, AGLIMTAQ_UNFINISHED);
     expect("a cut record's number", COUNT(calls), r.number, 4);
-    expect("a cut record's position", COUNT(calls), r.position, end - 4);
-    aglimtaq_read_next(out, end, end + 1, &r);
+    expect("a cut record's position", COUNT(calls), cut.at, end - 4);
+    aglimtaq_read_next(out, end, &beyond, &r);
     expect("beyond the end", COUNT(calls), r.answer, AGLIMTAQ_REFUSED);
     expect("beyond the end", COUNT(calls), r.number, AGLIMTAQ_BEYOND_END);
-    aglimtaq_read_previous(out, end, end + 1, &r);
+    expect("the position beyond the end", COUNT(calls), beyond.at, end + 1);
+    aglimtaq_read_previous(out, end, &beyond, &r);
     expect("beyond the end, backwards", COUNT(calls), r.answer, AGLIMTAQ_REFUSED);
     expect("beyond the end, backwards", COUNT(calls), r.number, AGLIMTAQ_BEYOND_END);
+    expect("the position beyond the end, backwards", COUNT(calls), beyond.at, end + 1);
 }
 
 /* A call beyond the lent bytes, and one whose name is bad as well: 8 comes first. */
 static void write_beyond(void)
 {
-    uint64_t next = 12345;
-    uint64_t answer = aglimtaq_write(out, ROOM, ROOM + 1, &calls[0].record, calls[0].bytes, calls[0].length, &next);
+    struct aglimtaq_position beyond = {ROOM + 1, AGLIMTAQ_LE64};
+    uint64_t answer = aglimtaq_write(out, ROOM, &beyond, &calls[0].record, calls[0].bytes, calls[0].length);
     expect("written beyond the end", 0, answer, AGLIMTAQ_BEYOND_END);
-    expect("the place, beyond the end", 0, next, ROOM + 1);
-    answer = aglimtaq_write(out, ROOM, ROOM + 1, &calls[2].record, calls[2].bytes, calls[2].length, &next);
+    expect("the position, beyond the end", 0, beyond.at, ROOM + 1);
+    answer = aglimtaq_write(out, ROOM, &beyond, &calls[2].record, calls[2].bytes, calls[2].length);
     expect("written beyond the end", 2, answer, AGLIMTAQ_BEYOND_END);
 }
 

@@ -73,6 +73,7 @@ struct list {
 static const struct list all_good = {good, COUNT, slices, sizeof slices};
 
 static uint8_t out[ROOM + AFTER];
+static struct aglimtaq_position position; /* as the last list left it */
 static struct aglimtaq_all all;
 static int wrong;
 
@@ -90,12 +91,15 @@ static void fresh(void)
     memset(out, 0xee, sizeof out);
 }
 
-static void write_list(const char *what, size_t which, struct list list, size_t room, size_t position, uint64_t due)
+static void write_list(const char *what, size_t which, struct list list, size_t room, uint64_t at, uint64_t due)
 {
     uint64_t answer;
-    all.position = all.records = all.bytes = 12345;
-    answer = aglimtaq_write_all(out, room, position, list.calls, list.count, list.bytes, list.length, &all);
+    position.at = at;
+    position.form = AGLIMTAQ_LE64;
+    all.records = all.bytes = 12345;
+    answer = aglimtaq_write_all(out, room, &position, list.calls, list.count, list.bytes, list.length, &all);
     expect(what, "the answer", which, answer, due);
+    expect(what, "the form", which, position.form, AGLIMTAQ_LE64);
 }
 
 /* What must be left: the first n good records, of which the last list wrote all but `before`. */
@@ -105,7 +109,7 @@ static void left(const char *what, size_t which, size_t before, size_t n)
     memset(due, 0xee, sizeof due);
     memcpy(due + BEFORE, records, ends[n]);
     expect(what, "bytes that differ", which, memcmp(due, out, sizeof out) != 0, 0);
-    expect(what, "the position", which, all.position, BEFORE + ends[n]);
+    expect(what, "the position", which, position.at, BEFORE + ends[n]);
     expect(what, "the records", which, all.records, n - before);
     expect(what, "the bytes taken", which, all.bytes, taken[n] - taken[before]);
 }
@@ -114,13 +118,13 @@ static void left(const char *what, size_t which, size_t before, size_t n)
 static void go_on(const char *what, size_t which, size_t n)
 {
     struct list rest;
-    if (all.records > COUNT || all.bytes > sizeof slices || all.position > ROOM)
+    if (all.records > COUNT || all.bytes > sizeof slices || position.at > ROOM)
         return;
     rest.calls = good + all.records;
     rest.count = COUNT - all.records;
     rest.bytes = slices + all.bytes;
     rest.length = sizeof slices - all.bytes;
-    write_list(what, which, rest, ROOM, all.position, 0);
+    write_list(what, which, rest, ROOM, position.at, 0);
     left(what, which, n, COUNT);
 }
 
@@ -128,7 +132,7 @@ static void go_on(const char *what, size_t which, size_t n)
 static void write_good(void)
 {
     uint8_t by_all[sizeof out];
-    uint64_t position = BEFORE;
+    struct aglimtaq_position one = {BEFORE, AGLIMTAQ_LE64};
     fresh();
     write_list("all", 0, all_good, ROOM, BEFORE, 0);
     left("all", 0, 0, COUNT);
@@ -138,9 +142,9 @@ static void write_good(void)
         struct aglimtaq_record record = {good[i].type, {0, 0, 0}};
         memcpy(record.numbers, good[i].numbers, sizeof record.numbers);
         expect("one by one", "the answer", i,
-               aglimtaq_write(out, ROOM, position, &record, slices + taken[i], good[i].length, &position), 0);
+               aglimtaq_write(out, ROOM, &one, &record, slices + taken[i], good[i].length), 0);
     }
-    expect("one by one", "the position", COUNT, position, all.position);
+    expect("one by one", "the position", COUNT, one.at, position.at);
     expect("one by one", "bytes that differ", COUNT, memcmp(by_all, out, sizeof out) != 0, 0);
 }
 
@@ -199,8 +203,8 @@ static void write_none(void)
     for (size_t i = 0; i < sizeof positions / sizeof *positions; i++) {
         fresh();
         write_list("none", i, none, ROOM, positions[i], 0);
-        expect("none", "the position", i, all.position, positions[i]);
-        all.position = BEFORE;
+        expect("none", "the position", i, position.at, positions[i]);
+        position.at = BEFORE;
         left("none", i, 0, 0);
     }
 }
@@ -214,11 +218,11 @@ static void write_beyond(void)
     for (size_t i = 0; i < 2; i++) {
         fresh();
         write_list("beyond", i, all_good, ROOM, positions[i], AGLIMTAQ_BEYOND_END);
-        expect("beyond", "the position", i, all.position, positions[i]);
-        all.position = BEFORE;
+        expect("beyond", "the position", i, position.at, positions[i]);
+        position.at = BEFORE;
         left("beyond", i, 0, 0);
         write_list("no record beyond", i, none_good, ROOM, positions[i], AGLIMTAQ_NOT_A_RECORD);
-        expect("no record beyond", "the position", i, all.position, positions[i]);
+        expect("no record beyond", "the position", i, position.at, positions[i]);
     }
 }
 

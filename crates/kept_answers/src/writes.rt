@@ -6,14 +6,14 @@ use console::print;
 use trace_c::aglimtaq_write;
 
 // What aglimtaq_write leaves of the record in an output that has room.
-fn written(record: &[u64; 4], bytes: &[u8]) {
+fn written(record: &[u64; 4], bytes: &[u8], form: u64) {
     let mut out = [0u8; 66048];
-    let mut next = 0;
-    let refused = aglimtaq_write(&mut out, 0, record, bytes, &mut next);
+    let mut position = [0, form];
+    let refused = aglimtaq_write(&mut out, &mut position, record, bytes);
     if refused != 0 {
         return print::labelled(b"refused ", refused);
     }
-    let end = next as usize;
+    let end = position[0] as usize;
     if out.len() < end {
         return print::text(b"beyond the output");
     }
@@ -38,7 +38,7 @@ fn asked(line: &[u8]) -> Numbers {
 }
 
 // The bytes of the record that a line asks for. What the record holds is decoded into the lent bytes.
-pub fn write_line(line: &[u8], bytes: &mut [u8]) {
+pub fn write_line(line: &[u8], bytes: &mut [u8], form: u64) {
     let found = asked(line);
     let record = found.record;
     let end = found.end;
@@ -49,7 +49,7 @@ pub fn write_line(line: &[u8], bytes: &mut [u8]) {
     let input = decode(&line[from..], bytes);
     let count = input.count;
     if input.good {
-        written(&record, &bytes[..count]);
+        written(&record, &bytes[..count], form);
     } else {
         print::text(b"not an input");
     }

@@ -5,7 +5,8 @@ use mathlib.Core.Bool.{Bool, true, false}
 use mathlib.Core.List.{List, [], _∷_, map}
 use Prim.Native.Nat.{ℕ}
 use Rattle.numbers.specs.Lists.{part, splice}
-use Rattle.numbers.specs.Numbers.{leValue, leBytes}
+use Rattle.numbers.specs.Numbers.Order.{leastFirst, mostFirst}
+use Rattle.numbers.specs.Numbers.{leValue, leBytes, valueIn, bytesIn}
 use Rattle.numbers.specs.Text.{classIn, asksIn, classOf, asks, utf8From, utf8}
 
 -- bytes, and whether they are text
@@ -113,6 +114,9 @@ lists =
     ∷ row (leBytes 2 0x0201) (0x01 ∷ 0x02 ∷ [])
     ∷ row (leBytes 4 0xff) (0xff ∷ 0x00 ∷ 0x00 ∷ 0x00 ∷ [])
     ∷ row (leBytes 2 0x030201) (0x01 ∷ 0x02 ∷ [])  -- what does not fit is left out
+    ∷ row (valueIn leastFirst (0x01 ∷ 0x02 ∷ 0x03 ∷ []) ∷ valueIn mostFirst (0x01 ∷ 0x02 ∷ 0x03 ∷ []) ∷ []) (0x030201 ∷ 0x010203 ∷ [])  -- "least or most significant first"
+    ∷ row (bytesIn leastFirst 4 0x0102) (0x02 ∷ 0x01 ∷ 0x00 ∷ 0x00 ∷ [])
+    ∷ row (bytesIn mostFirst 4 0x0102) (0x00 ∷ 0x00 ∷ 0x01 ∷ 0x02 ∷ [])
     ∷ row (part (10 ∷ 11 ∷ 12 ∷ 13 ∷ []) 1 2) (11 ∷ 12 ∷ [])
     ∷ row (splice (10 ∷ 11 ∷ 12 ∷ 13 ∷ []) 1 (20 ∷ 21 ∷ [])) (10 ∷ 20 ∷ 21 ∷ 13 ∷ [])
     ∷ []

@@ -1,7 +1,9 @@
--- Document 01, "Frames" and "Contents": a number in w bytes, least significant byte first, defined once over the width. The other
--- byte order is the same list reversed: `leValue (reverse bs)` and `reverse (leBytes w n)`. Assumes nothing.
-use mathlib.Core.List.{List, [], _∷_}
+-- Document 01, "Frames" and "Contents", and document 02, M-100: a number in w bytes, defined over the width and the order of the bytes.
+-- Assumes nothing.
+use mathlib.Core.List.{List, [], _∷_, reverse}
 use Prim.Native.Nat.{ℕ, zero, suc, _+_, _*_, _/_, _%_}
+
+-- ---- least significant byte first
 
 -- the number that the bytes stand for
 unfoldable pub leValue : List ℕ → ℕ
@@ -12,3 +14,19 @@ leValue (b ∷ bs) = b + 256 * leValue bs
 unfoldable pub leBytes : ℕ → ℕ → List ℕ
 leBytes zero n = []
 leBytes (suc w) n = n % 256 ∷ leBytes w (n / 256)
+
+-- ---- "least or most significant first": the second is the first, reversed
+
+pub data Order : Type 0 where
+  leastFirst : Order
+  mostFirst : Order
+
+abbrev pub ordered : Order → List ℕ → List ℕ
+ordered leastFirst bs = bs
+ordered mostFirst bs = reverse bs
+
+abbrev pub valueIn : Order → List ℕ → ℕ
+valueIn o bs = leValue (ordered o bs)
+
+abbrev pub bytesIn : Order → ℕ → ℕ → List ℕ
+bytesIn o w n = ordered o (leBytes w n)

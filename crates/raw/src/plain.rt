@@ -7,6 +7,7 @@ ghost use Rattle.records.specs.Reading.{parse};
 ghost use Rattle.records.specs.Kinds.{kindIn};
 use crate::raw_record::RawRecord;
 use frames::read::Content;
+use records::address::AddressForm;
 use records::kind::Kind;
 use records::parse::Parsed;
 
@@ -28,10 +29,10 @@ pub fn len(s: &[u8]) -> usize
     RawRecord::new(s).len()
 }
 
-pub fn parse(s: &[u8]) -> Parsed
-    ensures { λ r. ⌜ r ≡ parse 0 (now (s .entry)) ⌝ }
+pub fn parse(s: &[u8], form: AddressForm) -> Parsed
+    ensures { λ r. ⌜ r ≡ parse form 0 (now (s .entry)) ⌝ }
 {
-    RawRecord::new(s).parse()
+    RawRecord::new(s).parse(form)
 }
 
 pub fn bytes(s: &[u8]) -> &[u8]

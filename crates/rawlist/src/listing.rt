@@ -5,6 +5,7 @@ use console::print;
 use frames::read::Part;
 use raw::plain::len;
 use raw::trace_buffer::next_from;
+use records::address::AddressForm;
 use records::bytes::bytes;
 use records::position::Answer;
 use records::position::Framed;
@@ -42,7 +43,7 @@ pub fn list(s: &[u8]) {
     let mut at = 0;
     let mut more = true;
     while more {
-        let reading = next_from(Position::at(at), s);
+        let reading = next_from(Position::at(at, AddressForm::Le64), s);
         let answer = reading.answer;
         put_line(s, at, answer);
         let position = reading.position;

@@ -27,11 +27,12 @@ fn cut(w: Written, n: usize) -> Written {
     let position = w.position;
     let verdict = w.verdict;
     let end = position.at;
+    let form = position.form;
     if end < n {
         return w;
     }
     Written {
-        position: Position::at(end - n),
+        position: Position::at(end - n, form),
         verdict,
     }
 }

@@ -1,6 +1,7 @@
 // Records put one after the other, each at the position that the call before handed back. After a refusal
 // nothing is put, and the refusal is handed on.
 use numbers::copy::copy;
+use records::address::AddressForm;
 use records::judge::Verdict;
 use records::new_record::NewMeta;
 use records::new_record::NewRecord;
@@ -12,7 +13,7 @@ use records::refusal::NO_ROOM;
 // A trace without records.
 pub(crate) fn empty() -> Written {
     Written {
-        position: Position::at(0),
+        position: Position::start(AddressForm::Le64),
         verdict: Verdict::Accepted,
     }
 }
@@ -33,7 +34,7 @@ pub(crate) fn put_meta(out: &mut [u8], before: Written, new: NewMeta, bytes: &[u
 }
 
 fn copied(out: &mut [u8], at: usize, s: &[u8]) -> Written {
-    let position = Position::at(at);
+    let position = Position::at(at, AddressForm::Le64);
     if at > out.len() {
         return Written {
             position,
@@ -48,7 +49,7 @@ fn copied(out: &mut [u8], at: usize, s: &[u8]) -> Written {
     }
     copy(out, at, s);
     Written {
-        position: Position::at(at + s.len()),
+        position: Position::at(at + s.len(), AddressForm::Le64),
         verdict: Verdict::Accepted,
     }
 }

@@ -1,3 +1,4 @@
 mod CallLaws
+mod DirectLaws
 pub mod Theorem
 pub mod Examples

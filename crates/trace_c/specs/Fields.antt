@@ -72,14 +72,14 @@ nothing = 0 ∷ 0 ∷ 0 ∷ 0 ∷ 0 ∷ 0 ∷ []
 unfoldable pub numbersOf : Fields → List ℕ
 numbersOf f = f .«type_number» ∷ f .a ∷ f .b ∷ f .c ∷ f .part .start ∷ f .part .end ∷ []
 
--- position, enum aglimtaq_answer, number, start and end, and the record
-unfoldable pub flatAnswer : ℕ → Answer → List ℕ
-flatAnswer p (answer.Shown r q) = p ∷ 0 ∷ 0 ∷ q .start ∷ q .end ∷ numbersOf (fieldsOf r)
-flatAnswer p (answer.RefusedAt n q) = p ∷ 1 ∷ n ∷ q .start ∷ q .end ∷ nothing
-flatAnswer p (answer.Refused n) = p ∷ 2 ∷ n ∷ 0 ∷ 0 ∷ nothing
-flatAnswer p answer.Finished = p ∷ 3 ∷ 0 ∷ 0 ∷ 0 ∷ nothing
-flatAnswer p (answer.Unfinished n) = p ∷ 4 ∷ n ∷ 0 ∷ 0 ∷ nothing
+-- enum aglimtaq_answer, number, start and end, and the record
+unfoldable pub flatAnswer : Answer → List ℕ
+flatAnswer (answer.Shown r q) = 0 ∷ 0 ∷ q .start ∷ q .end ∷ numbersOf (fieldsOf r)
+flatAnswer (answer.RefusedAt n q) = 1 ∷ n ∷ q .start ∷ q .end ∷ nothing
+flatAnswer (answer.Refused n) = 2 ∷ n ∷ 0 ∷ 0 ∷ nothing
+flatAnswer answer.Finished = 3 ∷ 0 ∷ 0 ∷ 0 ∷ nothing
+flatAnswer (answer.Unfinished n) = 4 ∷ n ∷ 0 ∷ 0 ∷ nothing
 
 unfoldable pub flatParsed : Parsed → List ℕ
-flatParsed (parsed.Shown r) = 0 ∷ 0 ∷ 0 ∷ 0 ∷ 0 ∷ numbersOf (fieldsOf r)
-flatParsed (parsed.Refused n) = 0 ∷ 2 ∷ n ∷ 0 ∷ 0 ∷ nothing
+flatParsed (parsed.Shown r) = 0 ∷ 0 ∷ 0 ∷ 0 ∷ numbersOf (fieldsOf r)
+flatParsed (parsed.Refused n) = 2 ∷ n ∷ 0 ∷ 0 ∷ nothing

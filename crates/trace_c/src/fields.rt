@@ -146,16 +146,14 @@ fn of_record(record: Record) -> Fields
 }
 
 // The numbers of struct aglimtaq_reading, in order.
-pub fn of_answer(position: usize, answer: Answer) -> [u64; 11]
-    ensures { λ r. ⌜ r ≡ flatAnswer position answer ⌝ }
+pub fn of_answer(answer: Answer) -> [u64; 10]
+    ensures { λ r. ⌜ r ≡ flatAnswer answer ⌝ }
 {
-    let p = position as u64;
     match answer {
         Answer::Shown(record, part) => {
             let f = of_record(record);
             let own = f.part;
             [
-                p,
                 0,
                 0,
                 part.start as u64,
@@ -169,7 +167,6 @@ pub fn of_answer(position: usize, answer: Answer) -> [u64; 11]
             ]
         }
         Answer::RefusedAt(number, part) => [
-            p,
             1,
             number as u64,
             part.start as u64,
@@ -181,13 +178,13 @@ pub fn of_answer(position: usize, answer: Answer) -> [u64; 11]
             0,
             0,
         ],
-        Answer::Refused(number) => [p, 2, number as u64, 0, 0, 0, 0, 0, 0, 0, 0],
-        Answer::Finished => [p, 3, 0, 0, 0, 0, 0, 0, 0, 0, 0],
-        Answer::Unfinished(wanted) => [p, 4, wanted as u64, 0, 0, 0, 0, 0, 0, 0, 0],
+        Answer::Refused(number) => [2, number as u64, 0, 0, 0, 0, 0, 0, 0, 0],
+        Answer::Finished => [3, 0, 0, 0, 0, 0, 0, 0, 0, 0],
+        Answer::Unfinished(wanted) => [4, wanted as u64, 0, 0, 0, 0, 0, 0, 0, 0],
     }
 }
 
-pub(crate) fn of_parsed(parsed: Parsed) -> [u64; 11]
+pub(crate) fn of_parsed(parsed: Parsed) -> [u64; 10]
     ensures { λ r. ⌜ r ≡ flatParsed parsed ⌝ }
 {
     match parsed {
@@ -195,7 +192,6 @@ pub(crate) fn of_parsed(parsed: Parsed) -> [u64; 11]
             let f = of_record(record);
             let own = f.part;
             [
-                0,
                 0,
                 0,
                 0,
@@ -208,6 +204,6 @@ pub(crate) fn of_parsed(parsed: Parsed) -> [u64; 11]
                 own.end as u64,
             ]
         }
-        Parsed::Refused(number) => [0, 2, number as u64, 0, 0, 0, 0, 0, 0, 0, 0],
+        Parsed::Refused(number) => [2, number as u64, 0, 0, 0, 0, 0, 0, 0, 0],
     }
 }

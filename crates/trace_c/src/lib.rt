@@ -1,6 +1,8 @@
 // The functions that C and Rust call. include/trace.h explains the arguments and the numbers; a struct there is here
 // the array of its numbers.
+mod direct;
 pub mod fields;
+pub mod form;
 pub mod given;
 mod read;
 mod types;

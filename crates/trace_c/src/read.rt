@@ -1,12 +1,15 @@
 // Reading, by numbers and byte slices.
 ghost use mathlib.Core.Path.{_≡_};
 ghost use Rattle.frames.specs.Frames.{needed, valueOf};
-ghost use Rattle.records.specs.Reading.{parseAt, nextName};
-ghost use Rattle.records.specs.Positions.{here, readNext, readPrevious};
-ghost use Rattle.trace_c.specs.Fields.{flatParsed};
-ghost use Rattle.trace_c.specs.Reading.{flatReading, flatContent, contentNumber, flatName, nameNumber};
+ghost use Rattle.records.specs.Reading.{nextName};
+ghost use Rattle.records.specs.Positions.{readNext, readPrevious};
+ghost use Rattle.trace_c.specs.Forms.{formOf, formIn};
+ghost use Rattle.trace_c.specs.Reading.{placeBy, readingBy, parsedBy, flatContent, contentNumber, flatName, nameNumber};
 use crate::fields::of_answer;
 use crate::fields::of_parsed;
+use crate::form::Formed;
+use crate::form::NOT_A_FORM;
+use crate::form::form_of;
 use frames::read::Content;
 use frames::read::Frame;
 use frames::read::one_record;
@@ -16,31 +19,55 @@ use records::record::Record;
 use records::registers::Names;
 use records::registers::NextName;
 
+// A reading refused for its form.
+const NO_FORM: [u64; 10] = [2, NOT_A_FORM, 0, 0, 0, 0, 0, 0, 0, 0];
+
 #[no_mangle]
-pub extern "C" fn aglimtaq_read_next(bytes: &[u8], position: usize, reading: &mut [u64; 11])
-    ensures { λ _. ⌜ now (reading .exit) ≡ flatReading (readNext (now (bytes .entry)) (here position)) ⌝ }
+pub extern "C" fn aglimtaq_read_next(bytes: &[u8], position: &mut [u64; 2], reading: &mut [u64; 10])
+    ensures { λ _. ⌜ now (position .exit) ≡ placeBy (readNext (now (bytes .entry))) (now (position .entry)) (formIn (now (position .entry))) ⌝ }
+    ensures { λ _. ⌜ now (reading .exit) ≡ readingBy (readNext (now (bytes .entry))) (now (position .entry)) (formIn (now (position .entry))) ⌝ }
 {
-    let next = Position::at(position).read_next(bytes);
-    let place = next.position;
-    let answer = next.answer;
-    *reading = of_answer(place.at, answer);
+    match form_of(position[1]) {
+        Formed::Form(form) => {
+            let next = Position::at(position[0] as usize, form).read_next(bytes);
+            let place = next.position;
+            let answer = next.answer;
+            position[0] = place.at as u64;
+            *reading = of_answer(answer);
+        }
+        Formed::Nothing => *reading = NO_FORM,
+    }
 }
 
 #[no_mangle]
-pub extern "C" fn aglimtaq_read_previous(bytes: &[u8], position: usize, reading: &mut [u64; 11])
-    ensures { λ _. ⌜ now (reading .exit) ≡ flatReading (readPrevious (now (bytes .entry)) (here position)) ⌝ }
+pub extern "C" fn aglimtaq_read_previous(
+    bytes: &[u8],
+    position: &mut [u64; 2],
+    reading: &mut [u64; 10],
+)
+    ensures { λ _. ⌜ now (position .exit) ≡ placeBy (readPrevious (now (bytes .entry))) (now (position .entry)) (formIn (now (position .entry))) ⌝ }
+    ensures { λ _. ⌜ now (reading .exit) ≡ readingBy (readPrevious (now (bytes .entry))) (now (position .entry)) (formIn (now (position .entry))) ⌝ }
 {
-    let previous = Position::at(position).read_previous(bytes);
-    let start = previous.position;
-    let answer = previous.answer;
-    *reading = of_answer(start.at, answer);
+    match form_of(position[1]) {
+        Formed::Form(form) => {
+            let previous = Position::at(position[0] as usize, form).read_previous(bytes);
+            let start = previous.position;
+            let answer = previous.answer;
+            position[0] = start.at as u64;
+            *reading = of_answer(answer);
+        }
+        Formed::Nothing => *reading = NO_FORM,
+    }
 }
 
 #[no_mangle]
-pub extern "C" fn aglimtaq_parse(bytes: &[u8], base: usize, reading: &mut [u64; 11])
-    ensures { λ _. ⌜ now (reading .exit) ≡ flatParsed (parseAt base (now (bytes .entry))) ⌝ }
+pub extern "C" fn aglimtaq_parse(bytes: &[u8], base: usize, form: u64, reading: &mut [u64; 10])
+    ensures { λ _. ⌜ now (reading .exit) ≡ parsedBy base (now (bytes .entry)) (formOf form) ⌝ }
 {
-    *reading = of_parsed(Record::parse(base, bytes));
+    match form_of(form) {
+        Formed::Form(form) => *reading = of_parsed(Record::parse(form, base, bytes)),
+        Formed::Nothing => *reading = NO_FORM,
+    }
 }
 
 #[no_mangle]

@@ -9,13 +9,14 @@ use lib.ListN.{length, take}
 use Rattle.frames.specs.declared.read.Part.{Part}
 use Rattle.numbers.specs.Lists.{splice}
 use Rattle.numbers.proofs.SpliceLaws.{take-splice-end}
+use Rattle.records.specs.declared.address.AddressForm.{AddressForm}
 use Rattle.records.specs.declared.position.Answer.{Answer}
 use Rattle.records.specs.declared.position.Answer.the-variants as answer
 use Rattle.records.specs.declared.position.Position.{Position}
 use Rattle.records.specs.declared.position.Reading.{Reading}
 use Rattle.records.specs.Positions.{here, framedIn, readNext}
 use Rattle.records.proofs.AheadLaws.{Ahead, next-ahead}
-use Rattle.records.proofs.PlaceLaws.{handed, next-place}
+use Rattle.records.proofs.PlaceLaws.{handed, next-place, next-formed}
 use Rattle.walk.specs.Walks.{seen, frames, readings, forth}
 use Rattle.walk.proofs.CompleteLaws.{next-same}
 use Rattle.tracelist.specs.declared.line.Line.{Line}
@@ -23,9 +24,13 @@ use Rattle.tracelist.specs.declared.line.Line.the-variants as line
 use Rattle.tracelist.specs.Listing.{recordLine, lineAs, lineOf, lineText, linesText, listing}
 use Rattle.tracelist.specs.Inner.{listedFrom, rest}
 
--- where a call leaves the position
+-- where a call reads
+abbrev from : ℕ → Position
+from at = here AddressForm.Le64 at
+
+-- where it leaves the position
 abbrev place : ℕ → Answer → ℕ
-place at a = handed (λ (q : Part). q .end) (here at) a .at
+place at a = handed (λ (q : Part). q .end) (from at) a .at
 
 -- ---- the line, by the answer
 
@@ -38,11 +43,11 @@ kept s at (answer.Refused n) = refl
 kept s at answer.Finished = refl
 kept s at (answer.Unfinished n) = refl
 
-pub line-next : (s : List ℕ) (at : ℕ) → lineOf s (readNext s (here at)) ≡ lineAs s at (readNext s (here at) .answer)
+pub line-next : (s : List ℕ) (at : ℕ) → lineOf s (readNext s (from at)) ≡ lineAs s at (readNext s (from at) .answer)
 unfolding lineOf
 line-next s at =
-    ap (λ (p : Position). lineAs s (p .at) (readNext s (here at) .answer)) (next-place s (here at))
-    ∙ kept s at (readNext s (here at) .answer)
+    ap (λ (p : Position). lineAs s (p .at) (readNext s (from at) .answer)) (next-place s (from at))
+    ∙ kept s at (readNext s (from at) .answer)
 
 -- ---- what is listed
 
@@ -55,29 +60,31 @@ moves-as s at (answer.Refused n) h e = absurd (false≢true e)
 moves-as s at answer.Finished h e = absurd (false≢true e)
 moves-as s at (answer.Unfinished n) h e = absurd (false≢true e)
 
-moves : (s : List ℕ) (at : ℕ) → let r = readNext s (here at) in frames (seen r) ≡ true → (at < r .position .at) × (r .position .at ≤ length s)
+moves : (s : List ℕ) (at : ℕ) → let r = readNext s (from at) in frames (seen r) ≡ true → (at < r .position .at) × (r .position .at ≤ length s)
 moves s at e =
-    subst (λ (p : Position). (at < p .at) × (p .at ≤ length s)) (sym (next-place s (here at)))
-    (moves-as s at (readNext s (here at) .answer) (next-ahead s (here at)) e)
+    subst (λ (p : Position). (at < p .at) × (p .at ≤ length s)) (sym (next-place s (from at)))
+    (moves-as s at (readNext s (from at) .answer) (next-ahead s (from at)) e)
 
 -- what is listed after a call
 listed-after : (s : List ℕ) (at : ℕ) (go : Bool)
-    → let r = readNext s (here at) in
+    → let r = readNext s (from at) in
     frames (seen r) ≡ go
     → linesText s (cond go (readings (readNext s) (length s) (r .position)) []) ≡ rest s (r .position .at) go
 unfolding linesText listedFrom
 listed-after s at false e = refl
 listed-after s at true e =
     let g = moves s at e in
-    ap (linesText s) (next-same s (readNext s (here at) .position .at) (length s) (suc (length s)) (g .1) (omega (arith, g .0, g .1)) (omega arith))
+    let to : ℕ = readNext s (from at) .position .at in
+    ap (λ (p : Position). linesText s (readings (readNext s) (length s) p)) (next-formed s (from at))
+    ∙ ap (linesText s) (next-same AddressForm.Le64 s to (length s) (suc (length s)) (g .1) (omega (arith, g .0, g .1)) (omega arith))
 
 -- what is listed is the line of what is at the offset, and what is listed after it
 listed-next : (s : List ℕ) (at : ℕ)
-    → let r = readNext s (here at) in
+    → let r = readNext s (from at) in
     listedFrom s at ≡ lineText (lineOf s r) ++ rest s (r .position .at) (frames (seen r))
 unfolding listedFrom readings linesText
 listed-next s at =
-    let r : Reading = readNext s (here at) in
+    let r : Reading = readNext s (from at) in
     ap (λ (t : List ℕ). lineText (lineOf s r) ++ t) (listed-after s at (frames (seen r)) refl)
 
 -- the whole listing is what is listed from the first byte on
@@ -114,14 +121,14 @@ runs-as s at (answer.Refused n) h e = e
 runs-as s at answer.Finished h e = e
 runs-as s at (answer.Unfinished n) h e = e
 
-line-runs : (s : List ℕ) (at : ℕ) → Runs s at (lineOf s (readNext s (here at)))
+line-runs : (s : List ℕ) (at : ℕ) → Runs s at (lineOf s (readNext s (from at)))
 line-runs s at =
-    let r : Reading = readNext s (here at) in
-    let e = listed-next s at ∙ ap (λ (p : Position). lineText (lineOf s r) ++ rest s (p .at) (frames (seen r))) (next-place s (here at)) in
-    rw line-next (runs-as s at (r .answer) (next-ahead s (here at)) (rw line-next at e))
+    let r : Reading = readNext s (from at) in
+    let e = listed-next s at ∙ ap (λ (p : Position). lineText (lineOf s r) ++ rest s (p .at) (frames (seen r))) (next-place s (from at)) in
+    rw line-next (runs-as s at (r .answer) (next-ahead s (from at)) (rw line-next at e))
 
 -- the same of a line that is known to be the one at the offset
-pub line-is : (s : List ℕ) (at : ℕ) {l m : Line} → l ≡ lineOf s (readNext s (here at)) → l ≡ m → Runs s at m
+pub line-is : (s : List ℕ) (at : ℕ) {l m : Line} → l ≡ lineOf s (readNext s (from at)) → l ≡ m → Runs s at m
 line-is s at e f = subst (Runs s at) (sym e ∙ f) (line-runs s at)
 
 -- a text put after what the buffer holds is taken from what is left to list

@@ -3,13 +3,14 @@ use mathlib.Core.Bool.{Bool, cond}
 use mathlib.Core.List.{List, []}
 use Prim.Native.Nat.{ℕ, suc, _+_, _-_}
 use lib.ListN.{length}
+use Rattle.records.specs.declared.address.AddressForm.{AddressForm}
 use Rattle.records.specs.Positions.{here, readNext}
 use Rattle.walk.specs.Walks.{readings}
 use Rattle.tracelist.specs.Listing.{linesText}
 
 -- what is listed from an offset on
 unfoldable pub listedFrom : List ℕ → ℕ → List ℕ
-listedFrom s at = linesText s (readings (readNext s) (suc (length s)) (here at))
+listedFrom s at = linesText s (readings (readNext s) (suc (length s)) (here AddressForm.Le64 at))
 
 -- the same, if there is more to list
 abbrev pub rest : List ℕ → ℕ → Bool → List ℕ

@@ -3,9 +3,11 @@ ghost use mathlib.Core.Path.{_≡_};
 ghost use Prim.Native.Nat.{_≤_, _<_};
 ghost use lib.ListN.{length};
 ghost use Rattle.frames.specs.Frames.{entries};
+ghost use Rattle.records.specs.declared.address.AddressForm.{AddressForm};
 ghost use Rattle.records.specs.Positions.{here, readNext};
 ghost use Rattle.tracelist.specs.Listing.{recordLine, lineOf};
 use frames::head::kind_in;
+use records::address::AddressForm;
 use records::position::Answer;
 use records::position::Position;
 
@@ -36,12 +38,12 @@ fn record_line(heads: &[u16; 256], s: &[u8], start: usize, end: usize, number: u
     }
 }
 
-// The line of what is at an offset of the trace.
+// The line of what is at an offset of the trace, whose addresses have eight bytes, least significant first.
 pub fn line_at(heads: &[u16; 256], s: &[u8], at: usize) -> Line
     requires { ⌜ now heads ≡ entries ⌝ }
-    ensures { λ r. ⌜ r ≡ lineOf (now (s .entry)) (readNext (now (s .entry)) (here at)) ⌝ }
+    ensures { λ r. ⌜ r ≡ lineOf (now (s .entry)) (readNext (now (s .entry)) (here AddressForm.Le64 at)) ⌝ }
 {
-    let reading = Position::at(at).read_next_in(heads, s);
+    let reading = Position::at(at, AddressForm::Le64).read_next_in(heads, s);
     let answer = reading.answer;
     match answer {
         Answer::Shown(_, part) => record_line(heads, s, part.start, part.end, 0),

@@ -2,7 +2,7 @@
 // pool and how much of it is the record's, and where its frame starts and ends.
 use crate::calls::Call;
 use crate::rules::NOTHING;
-use crate::rules::shape_of;
+use crate::rules::slice_of;
 use crate::shown::SHOWN;
 use crate::shown::Shown;
 use crate::slices::part;
@@ -45,8 +45,11 @@ pub(crate) fn entries(book: &[[u64; 8]], n: usize) -> &[[u64; 8]] {
 
 // A record has no bytes where its type takes none of the slice.
 fn kept(call: Call) -> usize {
-    let shape = shape_of(call.t);
-    if shape.slice == NOTHING { 0 } else { call.len }
+    if slice_of(call.t) == NOTHING {
+        0
+    } else {
+        call.len
+    }
 }
 
 pub(crate) fn enter(book: &mut [[u64; 8]], i: usize, call: Call, from: usize, to: usize) {

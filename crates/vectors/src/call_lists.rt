@@ -1,5 +1,5 @@
-// Forty lists of sixty calls, each written to a buffer whose length is drawn and which holds a part of the
-// pool before.
+// Forty lists of sixty calls, each in one of the four address forms, and written to a buffer whose length
+// is drawn and which holds a part of the pool before.
 use crate::book::enter;
 use crate::book::entries;
 use crate::calls::Call;
@@ -25,8 +25,10 @@ use crate::write::Said;
 use crate::write::write;
 use std::num::wrapping_add_usize;
 
-// How far a list has come: the codec's position, and the book's end position and number of records.
+// A list's form, and how far it has come: the codec's position, and the book's end position and number of
+// records.
 struct State {
+    form: u64,
     at: usize,
     end: usize,
     count: usize,
@@ -56,10 +58,11 @@ fn one_call(
     book: &mut [[u64; 8]],
     tally: &mut [u64],
 ) -> State {
-    let ruling = rule(call.t, call.a, slice, out.len(), state.end);
-    let said = write(out, state.at, call, slice);
+    let ruling = rule(state.form, call, slice, out.len(), state.end);
+    let said = write(state.form, out, state.at, call, slice);
     held(said, ruling, tally);
     State {
+        form: state.form,
         at: said.at,
         end: ruling.end,
         count: entered(book, state, call, ruling),
@@ -68,6 +71,7 @@ fn one_call(
 
 // The calls of a list.
 fn write_all(
+    form: u64,
     out: &mut [u8],
     pool: &[u8],
     book: &mut [[u64; 8]],
@@ -75,13 +79,14 @@ fn write_all(
     seed: &mut u64,
 ) -> State {
     let mut state = State {
+        form,
         at: 0,
         end: 0,
         count: 0,
     };
     let mut i: usize = 0;
     while i < 60 {
-        let call = next_call(seed);
+        let call = next_call(form, seed);
         let slice = part(pool, call.start, call.len);
         state = one_call(out, call, slice, state, book, tally);
         i = i + 1;
@@ -100,12 +105,13 @@ fn beyond(out: &[u8], before: &[u8], end: usize, tally: &mut [u64]) {
 
 fn line(out: &[u8], state: State) {
     let n = [
+        state.form,
         out.len() as u64,
         state.count as u64,
         state.end as u64,
         remainder(out),
     ];
-    numbers(b"lent, records, end, remainder:", &n, b"\n");
+    numbers(b"form, lent, records, end, remainder:", &n, b"\n");
 }
 
 // What was written of a list, compared with its book.
@@ -120,29 +126,43 @@ fn check(
     let s = part(out, 0, state.end);
     line(out, state);
     beyond(out, before, state.end, tally);
-    read_back(s, pool, book, tally);
-    read_all(s, pool, book, tally);
+    read_back(state.form, s, pool, book, tally);
+    read_all(state.form, s, pool, book, tally);
 }
 
 // One list, written over the bytes `before`.
-fn one_list(out: &mut [u8], before: &[u8], pool: &[u8], tally: &mut [u64], seed: &mut u64) {
+fn one_list(
+    form: u64,
+    out: &mut [u8],
+    before: &[u8],
+    pool: &[u8],
+    tally: &mut [u64],
+    seed: &mut u64,
+) {
     let mut book = [[0u64; 8]; 60];
     copy(out, before);
-    let state = write_all(out, pool, &mut book, tally, seed);
+    let state = write_all(form, out, pool, &mut book, tally, seed);
     check(out, before, pool, entries(&book, state.count), state, tally);
 }
 
-fn drawn_list(pool: &[u8], tally: &mut [u64], seed: &mut u64) {
+fn drawn_list(form: u64, pool: &[u8], tally: &mut [u64], seed: &mut u64) {
     let mut out = [0u8; 3500];
     let lent = 300 + draw(seed, 3000) as usize;
     let start = ANY + draw(seed, 60000) as usize;
-    one_list(&mut out[..lent], part(pool, start, lent), pool, tally, seed);
+    one_list(
+        form,
+        &mut out[..lent],
+        part(pool, start, lent),
+        pool,
+        tally,
+        seed,
+    );
 }
 
 fn lists(pool: &[u8], tally: &mut [u64], seed: &mut u64) {
-    let mut i: usize = 0;
+    let mut i: u64 = 0;
     while i < 40 {
-        drawn_list(pool, tally, seed);
+        drawn_list(i % 4, pool, tally, seed);
         i = i + 1;
     }
 }

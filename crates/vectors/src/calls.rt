@@ -4,6 +4,7 @@ use crate::pool::ANY;
 use crate::pool::LISTS;
 use crate::random::draw;
 use crate::random::number;
+use crate::rules::addresses;
 use crate::rules::shape_of;
 
 pub(crate) struct Call {
@@ -20,6 +21,24 @@ fn drawn_type(seed: &mut u64) -> u64 {
     match draw(seed, 26) {
         0 => 1,
         n => 2 + n,
+    }
+}
+
+// Addresses of `width` bytes; some at the border of four bytes, and a few of eight.
+fn drawn_address(seed: &mut u64, width: usize) -> u64 {
+    match draw(seed, 16) {
+        0 => 4294967295,
+        1 => 4294967296,
+        2 => number(seed, 8),
+        _ => number(seed, width),
+    }
+}
+
+fn drawn_number(seed: &mut u64, width: usize, address: bool) -> u64 {
+    if address {
+        drawn_address(seed, width)
+    } else {
+        number(seed, width)
     }
 }
 
@@ -52,11 +71,12 @@ fn drawn_length(seed: &mut u64) -> usize {
     }
 }
 
-pub(crate) fn next_call(seed: &mut u64) -> Call {
+// A call of a list in a form.
+pub(crate) fn next_call(form: u64, seed: &mut u64) -> Call {
     let t = drawn_type(seed);
-    let shape = shape_of(t);
-    let a = first(t, number(seed, shape.a));
-    let b = number(seed, shape.b);
+    let shape = shape_of(form, t);
+    let a = first(t, drawn_number(seed, shape.a, addresses(t) > 0));
+    let b = drawn_number(seed, shape.b, addresses(t) > 1);
     let c = number(seed, shape.c);
     let start = section(t) + draw(seed, 400) as usize;
     let len = drawn_length(seed);

@@ -1,4 +1,4 @@
-// The written bytes read on and back, whole and cut short, and compared with the book.
+// The written bytes read on and back in the list's form, whole and cut short, and compared with the book.
 use crate::book::Entry;
 use crate::book::entry_at;
 use crate::book::shows;
@@ -36,21 +36,25 @@ fn held(
 }
 
 // All records from the last to the first, then the start.
-pub(crate) fn read_back(s: &[u8], pool: &[u8], book: &[[u64; 8]], tally: &mut [u64]) {
+pub(crate) fn read_back(form: u64, s: &[u8], pool: &[u8], book: &[[u64; 8]], tally: &mut [u64]) {
     let mut at = s.len();
     let mut left = book.len();
     while left > 0 {
         left = left - 1;
         at = held(
             s,
-            previous(s, at),
+            previous(form, s, at),
             pool,
             entry_at(book, left),
             PREVIOUS,
             tally,
         );
     }
-    compared(tally, PREVIOUS_ENDS, ends(previous(s, at), FINISHED, 0, 0));
+    compared(
+        tally,
+        PREVIOUS_ENDS,
+        ends(previous(form, s, at), FINISHED, 0, 0),
+    );
 }
 
 // "Where it leaves m bytes of a frame, at least one and not all, the number wanted is 1 + width for m up to
@@ -81,24 +85,24 @@ fn ends_by(book: &[[u64; 8]], i: usize, k: usize) -> bool {
 }
 
 // The bytes before a cut read on: the records that end by then, then the end or an unfinished frame.
-fn read_on(s: &[u8], pool: &[u8], book: &[[u64; 8]], kind: usize, tally: &mut [u64]) {
+fn read_on(form: u64, s: &[u8], pool: &[u8], book: &[[u64; 8]], kind: usize, tally: &mut [u64]) {
     let count = book.len();
     let mut at = 0;
     let mut i = 0;
     while i < count && ends_by(book, i, s.len()) {
-        at = held(s, next(s, at), pool, entry_at(book, i), kind, tally);
+        at = held(s, next(form, s, at), pool, entry_at(book, i), kind, tally);
         i = i + 1;
     }
-    let same = cut_end(next(s, at), s.len(), book, i, tally);
+    let same = cut_end(next(form, s, at), s.len(), book, i, tally);
     compared(tally, wrapping_add_usize(kind, 2), same);
 }
 
 // All, then all cuts from 0 to the end.
-pub(crate) fn read_all(s: &[u8], pool: &[u8], book: &[[u64; 8]], tally: &mut [u64]) {
-    read_on(s, pool, book, NEXT, tally);
+pub(crate) fn read_all(form: u64, s: &[u8], pool: &[u8], book: &[[u64; 8]], tally: &mut [u64]) {
+    read_on(form, s, pool, book, NEXT, tally);
     let mut k = 0;
     while k < s.len() {
-        read_on(part(s, 0, k), pool, book, CUTS, tally);
+        read_on(form, part(s, 0, k), pool, book, CUTS, tally);
         k = k + 1;
     }
 }

@@ -1,4 +1,5 @@
 // What a reading gives, as numbers to compare: those of include/trace.h, by name.
+use crate::forms::form_of;
 use frames::read::Part;
 use records::position::Position;
 use records::position::Reading;
@@ -28,28 +29,28 @@ pub(crate) struct Shown {
 fn shown_by(reading: Reading) -> Shown {
     let position = reading.position;
     let answer = reading.answer;
-    let n = of_answer(position.at, answer);
+    let n = of_answer(answer);
     Shown {
-        next: n[0] as usize,
-        sort: n[1],
-        number: n[2],
-        from: n[3],
-        to: n[4],
-        t: n[5],
-        a: n[6],
-        b: n[7],
-        c: n[8],
+        next: position.at,
+        sort: n[0],
+        number: n[1],
+        from: n[2],
+        to: n[3],
+        t: n[4],
+        a: n[5],
+        b: n[6],
+        c: n[7],
         part: Part {
-            start: n[9] as usize,
-            end: n[10] as usize,
+            start: n[8] as usize,
+            end: n[9] as usize,
         },
     }
 }
 
-pub(crate) fn next(s: &[u8], at: usize) -> Shown {
-    shown_by(Position::at(at).read_next(s))
+pub(crate) fn next(form: u64, s: &[u8], at: usize) -> Shown {
+    shown_by(Position::at(at, form_of(form)).read_next(s))
 }
 
-pub(crate) fn previous(s: &[u8], at: usize) -> Shown {
-    shown_by(Position::at(at).read_previous(s))
+pub(crate) fn previous(form: u64, s: &[u8], at: usize) -> Shown {
+    shown_by(Position::at(at, form_of(form)).read_previous(s))
 }

@@ -31,7 +31,7 @@ const UNFINISHED: usize = 18;
 
 const WANTED: usize = 19;
 
-// Calls that the codec accepted; at the next places those refused with 8, with 9, and so on to 13.
+// Calls that the codec accepted; at the next places those refused with 8, with 9, and so on to 14.
 const ACCEPTED: usize = 20;
 
 fn add(tally: &mut [u64], i: usize, n: u64) {
@@ -89,11 +89,11 @@ fn report_cuts(tally: &[u64]) {
 }
 
 pub(crate) fn report(tally: &[u64])
-    requires { ⌜ 27 ≤ length (now tally) ⌝ }
+    requires { ⌜ 28 ≤ length (now tally) ⌝ }
 {
     numbers(
-        b"calls, accepted, refused with 8 to 13:",
-        &tally[20..27],
+        b"calls, accepted, refused with 8 to 14:",
+        &tally[20..28],
         b"\n",
     );
     print::text(b"compared, and of these differ\n");

@@ -1,5 +1,6 @@
 // A call of the codec's writer, and its answer as numbers.
 use crate::calls::Call;
+use crate::forms::form_of;
 use records::judge::Verdict;
 use records::position::Position;
 use records::position::Written;
@@ -28,9 +29,9 @@ fn said_of(written: Written) -> Said {
     }
 }
 
-pub(crate) fn write(out: &mut [u8], at: usize, call: Call, slice: &[u8]) -> Said {
+pub(crate) fn write(form: u64, out: &mut [u8], at: usize, call: Call, slice: &[u8]) -> Said {
     match new_of(call.t, call.a, call.b, call.c) {
-        Given::Record(new) => said_of(Position::at(at).write(out, new, slice)),
+        Given::Record(new) => said_of(Position::at(at, form_of(form)).write(out, new, slice)),
         Given::Nothing => Said { number: 256, at },
     }
 }

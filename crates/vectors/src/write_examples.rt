@@ -1,6 +1,6 @@
-// Document 01's examples of writing, and each refusal of writing beside what is just accepted. A line has
-// the call and its bytes, those written, 0 or the number of the refusal, the position handed back, and the
-// remainder of the whole buffer, which held aa everywhere before.
+// Document 01's examples of writing, and each of its refusals of writing beside what is just accepted. A
+// line has the call and its bytes, those written, 0 or the number of the refusal, the position handed back,
+// and the remainder of the whole buffer, which held aa everywhere before. All are in form 0.
 use crate::calls::Call;
 use crate::lines::edges;
 use crate::lines::numbers;
@@ -82,14 +82,14 @@ fn told(frame: &[u8], shown: Shown) {
 
 fn read_name(name: &[u8]) {
     let frame = name_frame(name);
-    told(&frame, next(&frame, 0));
-    told(&frame, previous(&frame, 44));
+    told(&frame, next(0, &frame, 0));
+    told(&frame, previous(0, &frame, 44));
 }
 
-// What is written of a call at a place.
-fn written(call: Call, slice: &[u8], from: usize) {
+// What is written of a call in a form and at a place.
+pub(crate) fn written(form: u64, call: Call, slice: &[u8], from: usize) {
     let mut out = [0xaau8; 65600];
-    let said = write(&mut out, from, call, slice);
+    let said = write(form, &mut out, from, call, slice);
     let to = said.at;
     if from < to {
         edges(part(&out, from, to - from));
@@ -102,7 +102,7 @@ fn example(call: Call, slice: &[u8], from: usize) {
     let n = [call.t, call.a, slice.len() as u64, from as u64];
     numbers(b"type, number, bytes, at:", &n, b"");
     edges(slice);
-    written(call, slice, from);
+    written(0, call, slice, from);
     if call.t == 12 {
         read_name(slice);
     }

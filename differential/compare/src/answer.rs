@@ -1,4 +1,5 @@
-//! What both sides answer, and what is written. The six structs are laid out as in include/trace.h, where each field is explained.
+//! What both sides answer, and what is written. The structs with `repr(C)` are laid out as in include/trace.h, where
+//! each field is explained.
 
 pub const SHOWN: u64 = 0;
 pub const REFUSED_AT: u64 = 1;
@@ -6,11 +7,18 @@ pub const REFUSED: u64 = 2;
 pub const FINISHED: u64 = 3;
 pub const UNFINISHED: u64 = 4;
 
+/// `struct aglimtaq_position`.
+#[repr(C)]
+#[derive(Clone, Copy, Debug, Default, PartialEq, Eq)]
+pub struct Position {
+    pub at: u64,
+    pub form: u64,
+}
+
 /// `struct aglimtaq_reading`.
 #[repr(C)]
 #[derive(Clone, Copy, Debug, Default, PartialEq, Eq)]
-pub struct Answer {
-    pub position: u64,
+pub struct Reading {
     pub answer: u64,
     pub number: u64,
     pub start: u64,
@@ -19,6 +27,13 @@ pub struct Answer {
     pub numbers: [u64; 3],
     pub bytes_start: u64,
     pub bytes_end: u64,
+}
+
+/// What a call that reads at a position leaves: the position after it, and the struct.
+#[derive(Clone, Copy, Debug, PartialEq, Eq)]
+pub struct Answer {
+    pub position: Position,
+    pub reading: Reading,
 }
 
 /// `struct aglimtaq_part`.
@@ -59,7 +74,6 @@ pub struct Call {
 #[repr(C)]
 #[derive(Clone, Copy, Debug, Default, PartialEq, Eq)]
 pub struct All {
-    pub position: u64,
     pub records: u64,
     pub bytes: u64,
 }
@@ -67,7 +81,7 @@ pub struct All {
 /// What `value` gives: 0 and a part, or a refusal and a part of zeros.
 pub type Value = (u64, Part);
 
-impl Answer {
+impl Reading {
     /// A record without bytes.
     pub fn plain(record_type: u64, numbers: [u64; 3]) -> Self {
         Self { record_type, numbers, ..Self::default() }
@@ -101,17 +115,11 @@ impl Answer {
     /// The answer where the bytes, `length` of them, were framed at `start`.
     pub fn framed(self, start: u64, length: u64) -> Self {
         let answer = if self.answer == REFUSED { REFUSED_AT } else { self.answer };
-        let end = start + length;
-        Self { answer, start, end, position: end, ..self.at(start) }
+        Self { answer, start, end: start + length, ..self.at(start) }
     }
 
-    /// The same, where the record was found from its end: the position is its start.
-    pub fn framed_back(self, start: u64, length: u64) -> Self {
-        Self { position: start, ..self.framed(start, length) }
-    }
-
-    /// The last answer of a walk.
-    pub fn last(answer: u64, position: u64, number: u64) -> Self {
-        Self { answer, position, number, ..Self::default() }
+    /// The last reading of a walk.
+    pub fn last(answer: u64, number: u64) -> Self {
+        Self { answer, number, ..Self::default() }
     }
 }

@@ -2,7 +2,8 @@
 
 use crate::ours;
 use crate::tally::Tally;
-use compare::answer::{All, Call, FlatRecord};
+use compare::answer::{All, Call, FlatRecord, Position};
+use compare::form::Form;
 use compare::given::Given;
 use compare::hex::tokens;
 use compare::source::{self, Said};
@@ -17,7 +18,7 @@ const AROUND: usize = 16;
 
 /// The row, once where there is room for it, and once where there is not.
 pub fn check(row: &[Given], tally: &mut Tally) {
-    let length = row.iter().map(length).sum();
+    let length = row.iter().map(|given| length(given, tally.form())).sum();
     let position = tally.turn(&[0, 0, 1, 21]);
     let behind = tally.turn(&[0, 0, 1, 21]);
     write_row(row, position, position + length + behind, tally);
@@ -26,9 +27,9 @@ pub fn check(row: &[Given], tally: &mut Tally) {
 }
 
 /// The length of a record as the original emits it; for one that is refused, more than it would have.
-fn length(given: &Given) -> usize {
+fn length(given: &Given, form: Form) -> usize {
     let mut emitted = Vec::new();
-    match emit(given, &mut emitted).outside {
+    match emit(given, form, &mut emitted).outside {
         None => emitted.len(),
         Some(_) => given.bytes.len() + 60,
     }
@@ -94,7 +95,8 @@ impl Output {
 
     /// Writes one record; what was said and the next position, where all is as it must be.
     fn write(&mut self, given: &Given, position: usize, tally: &mut Tally) -> Option<(u64, usize)> {
-        let said = write(given, self.room, position, &mut self.trace);
+        let form = tally.form();
+        let said = write(given, form, self.room, position, &mut self.trace);
         let frame = self.trace.get(position..).unwrap_or(&[]);
         let next = position + frame.len();
         if said.outside.is_none() {
@@ -106,9 +108,11 @@ impl Output {
             self.now[place].iter_mut().zip(frame).for_each(|(now, byte)| *now = !byte);
         }
         let mut record = given.record;
-        let (number, ours_next) = ours::write(&mut self.now, AROUND, position, &mut record, &given.bytes);
+        let at = form.at(position as u64);
+        let (number, ours_next) = ours::write(&mut self.now, AROUND, at, &mut record, &given.bytes);
         let ours = Written { number, next: ours_next, record: black_box(record), out: &self.now };
-        let says = Written { number: said.says, next: next as u64, record: given.record, out: &self.must };
+        let next_is = form.at(next as u64);
+        let says = Written { number: said.says, next: next_is, record: given.record, out: &self.must };
         let what = format_args!("write {:?} into {} bytes, position", given.record, self.room);
         let said = Said { says, outside: said.outside };
         tally.hold(what, position as u64, &said, &ours).then_some((number, next))
@@ -127,17 +131,26 @@ impl Output {
         let calls: Vec<Call> = row.iter().map(call).collect();
         let bytes = row.iter().map(|given| &given.bytes[..]).collect::<Vec<_>>().concat();
         let used = calls[..records].iter().map(|call| call.length).sum();
-        let all = All { position: end as u64, records: records as u64, bytes: used };
+        let all = All { records: records as u64, bytes: used };
         // Before the call, every byte that is to be written has another value.
         let mut now = self.must.clone();
         if first < end {
             now[AROUND + first..AROUND + end].iter_mut().for_each(|byte| *byte = !*byte);
         }
         let (mut lent, mut taken) = (calls.clone(), bytes.clone());
-        let (ours_number, ours_all) = ours::write_all(&mut now, AROUND, first, &mut lent, &mut taken);
+        let [from, next] = [first, end].map(|at| tally.form().at(at as u64));
+        let (ours_number, ours_next, ours_all) =
+            ours::write_all(&mut now, AROUND, from, &mut lent, &mut taken);
         let (lent, taken) = (black_box(lent), black_box(taken));
-        let ours = AllWritten { number: ours_number, all: ours_all, calls: &lent, bytes: &taken, out: &now };
-        let says = AllWritten { number, all, calls: &calls, bytes: &bytes, out: &self.must };
+        let ours = AllWritten {
+            number: ours_number,
+            next: ours_next,
+            all: ours_all,
+            calls: &lent,
+            bytes: &taken,
+            out: &now,
+        };
+        let says = AllWritten { number, next, all, calls: &calls, bytes: &bytes, out: &self.must };
         let what = format_args!("write {} records into {} bytes, position", row.len(), self.room);
         tally.one_call(&bytes, what, first as u64, &says, &ours);
     }
@@ -147,7 +160,7 @@ impl Output {
 #[derive(PartialEq)]
 struct Written<'a> {
     number: u64,
-    next: u64,
+    next: Position,
     record: FlatRecord,
     out: &'a [u8],
 }
@@ -155,7 +168,7 @@ struct Written<'a> {
 impl Debug for Written<'_> {
     fn fmt(&self, f: &mut Formatter) -> std::fmt::Result {
         let Written { number, next, record, out } = self;
-        write!(f, "{number}, next {next}, {record:?}, output with {AROUND} bytes around it ")?;
+        write!(f, "{number}, next {next:?}, {record:?}, output with {AROUND} bytes around it ")?;
         f.write_str(&tokens(out))
     }
 }
@@ -164,6 +177,7 @@ impl Debug for Written<'_> {
 #[derive(PartialEq)]
 struct AllWritten<'a> {
     number: u64,
+    next: Position,
     all: All,
     calls: &'a [Call],
     bytes: &'a [u8],
@@ -172,8 +186,8 @@ struct AllWritten<'a> {
 
 impl Debug for AllWritten<'_> {
     fn fmt(&self, f: &mut Formatter) -> std::fmt::Result {
-        let AllWritten { number, all, calls, bytes, out } = self;
-        write!(f, "{number}, {all:?}, {calls:?}, bytes {}, ", tokens(bytes))?;
+        let AllWritten { number, next, all, calls, bytes, out } = self;
+        write!(f, "{number}, next {next:?}, {all:?}, {calls:?}, bytes {}, ", tokens(bytes))?;
         write!(f, "output with {AROUND} bytes around it {}", tokens(out))
     }
 }

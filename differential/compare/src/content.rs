@@ -1,5 +1,6 @@
 //! Contents that each kind takes, put together from document 01's text alone.
 
+use crate::form::Form;
 use crate::frame::*;
 use crate::random::Random;
 
@@ -7,10 +8,10 @@ use crate::random::Random;
 pub const META_NEEDS: [usize; 12] = [8, 4, 8, 40, 0, 8, 0, 8, 4, 12, 12, 20];
 
 /// How many content bytes a kind takes; for Meta and FileMeta, the tag and the byte after it.
-pub fn need(kind: u8) -> usize {
+pub fn need(kind: u8, form: Form) -> usize {
     match kind {
-        MAP | INSTRUCTION | PC | MEM_READ | MEM_WRITE => 8,
-        UNMAP => 16,
+        MAP | INSTRUCTION | PC | MEM_READ | MEM_WRITE => form.width(),
+        UNMAP => 2 * form.width(),
         INTERRUPT => 12,
         ARCH | REG_READ | REG_WRITE => 4,
         FILE_META | REG_WRITE_NATIVE | META => 2,
@@ -20,17 +21,18 @@ pub fn need(kind: u8) -> usize {
 }
 
 /// Appends a content that is shown, of any kind but Magic.
-pub fn content(random: &mut Random, kind: u8, out: &mut Vec<u8>) {
+pub fn content(random: &mut Random, form: Form, kind: u8, out: &mut Vec<u8>) {
     match kind {
-        META => meta(random, out),
-        FILE_META if random.once_in(3) => unknown(random, 1, out),
-        FILE_META => register_list(random, out),
-        UNMAP | PC | INTERRUPT => numbers(random, need(kind), out),
-        _ => {
-            numbers(random, need(kind), out);
-            let count = size(random);
-            random.bytes(count, out);
-        }
+        META => return meta(random, out),
+        FILE_META if random.once_in(3) => return unknown(random, 1, out),
+        FILE_META => return register_list(random, out),
+        UNMAP | PC => (0..need(kind, form) / form.width()).for_each(|_| form.put(random, out)),
+        MAP | INSTRUCTION | MEM_READ | MEM_WRITE => form.put(random, out),
+        _ => numbers(random, need(kind, form), out),
+    }
+    if !matches!(kind, UNMAP | PC | INTERRUPT) {
+        let count = size(random);
+        random.bytes(count, out);
     }
 }
 

@@ -1,10 +1,11 @@
 //! Records as the original itself emits them.
 
+use crate::form::Form;
 use crate::random::Random;
 use dynamic_trace::record::*;
 
 /// Appends one record, of any type that a caller can make.
-pub fn emit(random: &mut Random, out: &mut Vec<u8>) {
+pub fn emit(random: &mut Random, form: Form, out: &mut Vec<u8>) {
     let mut data = Vec::new();
     let size = if random.once_in(30) { 230 + random.below(60) } else { random.below(10) };
     random.bytes(size, &mut data);
@@ -26,7 +27,7 @@ pub fn emit(random: &mut Random, out: &mut Vec<u8>) {
         12 => register_list(random, &data).into(),
         _ => meta(random, a, b, n).into(),
     };
-    record.emit(out, emit_le64);
+    record.emit(out, form.emit());
 }
 
 fn register_list(random: &mut Random, data: &[u8]) -> RegisterNameMap<'static> {

@@ -1,6 +1,7 @@
 //! What a caller of the writer gives: a record, and the bytes that are handed over with it.
 
 use crate::answer::FlatRecord;
+use crate::form::Form;
 use crate::random::Random;
 use crate::types::{Slice, Type};
 
@@ -20,9 +21,9 @@ impl Given {
         Type::find(self.record.record_type).filter(|kind| kind.fits(self.record.numbers))
     }
 
-    /// A record that is accepted, with `length` bytes; a name has at most 32.
-    pub fn good(random: &mut Random, kind: &Type, length: usize) -> Self {
-        let mut numbers = numbers(random, kind);
+    /// A record that is accepted, with `length` bytes; a name has at most 32. In four bytes an address may be too wide.
+    pub fn good(random: &mut Random, form: Form, kind: &Type, length: usize) -> Self {
+        let mut numbers = numbers(random, form, kind);
         let mut bytes = Vec::new();
         match kind.slice {
             Slice::Name => bytes = name(random, length.min(32)),
@@ -33,8 +34,8 @@ impl Given {
     }
 
     /// A record with these bytes, whatever they are; a register list counts the entries that it holds.
-    pub fn raw(random: &mut Random, kind: &Type, bytes: &[u8]) -> Self {
-        let mut numbers = numbers(random, kind);
+    pub fn raw(random: &mut Random, form: Form, kind: &Type, bytes: &[u8]) -> Self {
+        let mut numbers = numbers(random, form, kind);
         if kind.slice == Slice::List {
             numbers[0] = entries(bytes).0.len().min(255) as u64;
         }
@@ -42,12 +43,13 @@ impl Given {
     }
 }
 
-/// Numbers that fit, small ones more often than a uniform choice would give. Those that the type does not have are 0
-/// or, once in four, random.
-pub fn numbers(random: &mut Random, kind: &Type) -> [u64; 3] {
+/// Numbers that fit, small ones more often than a uniform choice would give; in four bytes an address may be too wide.
+/// Those that the type does not have are 0 or, once in four, random.
+pub fn numbers(random: &mut Random, form: Form, kind: &Type) -> [u64; 3] {
     let mut numbers = if random.once_in(4) { [0; 3].map(|_| random.number()) } else { [0; 3] };
-    for (number, &bits) in numbers.iter_mut().zip(kind.bits) {
-        *number = random.sized(bits as usize);
+    for (place, &bits) in kind.bits.iter().enumerate() {
+        let formed = place < kind.formed();
+        numbers[place] = if formed { form.address(random) } else { random.sized(bits as usize) };
     }
     if let Slice::Unknown(least) = kind.slice {
         numbers[0] = least + random.below(256 - least as usize) as u64;

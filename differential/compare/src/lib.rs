@@ -6,6 +6,7 @@ pub mod classes;
 pub mod content;
 pub mod damage;
 pub mod emit;
+pub mod form;
 pub mod frame;
 pub mod given;
 pub mod hex;

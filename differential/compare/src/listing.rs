@@ -5,6 +5,7 @@ use compare::answer::{FINISHED, UNFINISHED};
 use compare::classes::traces::trace;
 use compare::classes::{Run, CLASSES};
 use compare::damage::damage;
+use compare::form::Form;
 use compare::frame::{low_bits, MAGIC_BYTES};
 use compare::random::Random;
 use compare::source::{self, Outside, Said};
@@ -24,13 +25,13 @@ pub fn check(program: &Path, run: Run, tally: &mut Tally) {
         tally.hold("listing", 0, &said, &printed);
         tally.end(bytes);
     };
-    CLASSES[0].make(run, &mut one);
+    CLASSES[0].make(run, Form::Le64, &mut one);
     let mut random = Random::new(9);
     for round in 0..if run == Run::Long { 3000 } else { 400 } {
         let mut bytes = MAGIC_BYTES.to_vec();
         let longest = random.below(2048);
         while bytes.len() < longest {
-            trace(&mut random, 1, &mut bytes);
+            trace(&mut random, Form::Le64, 1, &mut bytes);
         }
         let other = bytes.clone();
         (0..round % 4).for_each(|_| damage(&mut random, &other, &mut bytes));
@@ -60,7 +61,7 @@ fn foreign(random: &mut Random, length: usize) -> Vec<u8> {
 fn large(random: &mut Random, one: &mut dyn FnMut(&[u8])) {
     let mut shown = Vec::new();
     while shown.len() <= MOST {
-        trace(random, 1, &mut shown);
+        trace(random, Form::Le64, 1, &mut shown);
     }
     let whole = MAGIC_BYTES.repeat(MOST / 8 + 1);
     for bytes in [whole, shown, foreign(random, MOST + 1), vec![0; MOST + 1]] {
@@ -80,9 +81,9 @@ fn text(bytes: &[u8]) -> Said<String> {
     }
     let mut position = 0;
     loop {
-        let said = source::next(bytes, position);
+        let said = source::next(bytes, position, Form::Le64);
         outside = outside.or(said.outside);
-        let answer = said.says;
+        let answer = said.says.reading;
         let (start, length) = (answer.start, answer.end - answer.start);
         let _ = match answer.answer {
             FINISHED => writeln!(says, "end {position}"),
@@ -95,7 +96,7 @@ fn text(bytes: &[u8]) -> Said<String> {
         if matches!(answer.answer, FINISHED | UNFINISHED) {
             return Said { says, outside };
         }
-        position = answer.position as usize;
+        position = answer.end as usize;
     }
 }
 

@@ -8,10 +8,14 @@ mod ours;
 mod tally;
 mod whole;
 
-use compare::classes::{writing, Run, CLASSES};
+use compare::classes::{writing, Class, Run, CLASSES};
+use compare::form::FORMS;
 use std::path::Path;
 use std::process::ExitCode;
 use tally::Tally;
+
+/// One for each form.
+type Totals = [Tally; FORMS.len()];
 
 fn main() -> ExitCode {
     let mut programs: Vec<String> = std::env::args().skip(1).collect();
@@ -20,25 +24,28 @@ fn main() -> ExitCode {
     programs.drain(..usize::from(long));
     compare::panics::silence();
     println!("{}", Tally::header());
-    let mut total = Tally::default();
+    let (mut read, mut written, mut total) = (Totals::default(), Totals::default(), Tally::default());
     for class in CLASSES {
-        let mut tally = Tally::default();
-        class.make(run, &mut |bytes| check::check(bytes, &mut tally));
-        report(class.name, tally, &mut total);
+        in_each_form(&class, run, check::check, &mut read);
     }
     for class in writing::CLASSES {
-        let mut tally = Tally::default();
-        class.make(run, &mut |row| check_write::check(row, &mut tally));
-        report(class.name, tally, &mut total);
+        in_each_form(&class, run, check_write::check, &mut written);
     }
     for program in programs.iter().map(Path::new) {
         let name = program.file_name().and_then(|name| name.to_str()).unwrap_or("listing");
         if program.exists() {
             let mut tally = Tally::default();
             listing::check(program, run, &mut tally);
-            report(name, tally, &mut total);
+            println!("{}", tally.line(name));
+            total.add(&tally);
         } else {
             println!("{name:<17} not compared: there is no {}", program.display());
+        }
+    }
+    for (what, totals) in [("read", read), ("written", written)] {
+        for (form, tally) in FORMS.iter().zip(totals) {
+            println!("{}", tally.line(&format!("all {what}, {}", form.name())));
+            total.add(&tally);
         }
     }
     println!("{}", total.line("total"));
@@ -51,7 +58,14 @@ fn main() -> ExitCode {
     }
 }
 
-fn report(name: &str, tally: Tally, total: &mut Tally) {
-    println!("{}", tally.line(name));
-    total.add(tally);
+/// Compares the inputs of a class in each form, and prints their sum.
+fn in_each_form<T: ?Sized>(class: &Class<T>, run: Run, check: fn(&T, &mut Tally), totals: &mut Totals) {
+    let mut sum = Tally::default();
+    for (form, total) in FORMS.into_iter().zip(totals) {
+        let mut tally = Tally::new(form);
+        class.make(run, form, &mut |input| check(input, &mut tally));
+        sum.add(&tally);
+        total.add(&tally);
+    }
+    println!("{}", sum.line(class.name));
 }

@@ -1,32 +1,51 @@
 //! What the proved codec answers, by the C interface of include/trace.h.
 
 use crate::whole::Whole;
-use compare::answer::{All, Answer, Call, Entry, FlatRecord, Part, Value};
+use compare::answer::{All, Answer, Call, Entry, FlatRecord, Part, Position, Reading, Value};
+use compare::form::Form;
 
 extern "C" {
-    fn aglimtaq_read_next(bytes: *const u8, length: usize, position: usize, reading: *mut Answer);
-    fn aglimtaq_read_previous(bytes: *const u8, length: usize, position: usize, reading: *mut Answer);
-    fn aglimtaq_parse(bytes: *const u8, length: usize, base: usize, reading: *mut Answer);
+    fn aglimtaq_read_next(bytes: *const u8, length: usize, position: *mut Position, reading: *mut Reading);
+    fn aglimtaq_read_previous(
+        bytes: *const u8,
+        length: usize,
+        position: *mut Position,
+        reading: *mut Reading,
+    );
+    fn aglimtaq_parse(bytes: *const u8, length: usize, base: usize, form: u64, reading: *mut Reading);
     fn aglimtaq_one_record(bytes: *const u8, length: usize) -> u64;
     fn aglimtaq_value(bytes: *const u8, length: usize, part: *mut Part) -> u64;
     fn aglimtaq_next_name(list: *const u8, length: usize, at: usize, entry: *mut Entry) -> u64;
     fn aglimtaq_is_utf8(bytes: *const u8, length: usize) -> u64;
     fn aglimtaq_count(bytes: *const u8, length: usize, end: *mut u64) -> u64;
-    fn aglimtaq_walk(bytes: *const u8, length: usize, counts: *mut u64, sizes: *mut u64, end: *mut u64);
-    fn aglimtaq_walk_back(bytes: *const u8, length: usize, counts: *mut u64, sizes: *mut u64, end: *mut u64);
+    fn aglimtaq_walk(
+        bytes: *const u8,
+        length: usize,
+        form: u64,
+        counts: *mut u64,
+        sizes: *mut u64,
+        end: *mut u64,
+    );
+    fn aglimtaq_walk_back(
+        bytes: *const u8,
+        length: usize,
+        form: u64,
+        counts: *mut u64,
+        sizes: *mut u64,
+        end: *mut u64,
+    );
     fn aglimtaq_write(
         out: *mut u8,
         room: usize,
-        position: usize,
+        position: *mut Position,
         record: *const FlatRecord,
         bytes: *const u8,
         length: usize,
-        next: *mut u64,
     ) -> u64;
     fn aglimtaq_write_all(
         out: *mut u8,
         room: usize,
-        position: usize,
+        position: *mut Position,
         calls: *const Call,
         count: usize,
         bytes: *const u8,
@@ -38,10 +57,9 @@ extern "C" {
 /// What every field holds before a call, so that a field which is not written is noticed.
 const UNWRITTEN: u64 = 0xa5a5_a5a5_a5a5_a5a5;
 
-fn unwritten() -> Answer {
+fn unwritten() -> Reading {
     let x = UNWRITTEN;
-    Answer {
-        position: x,
+    Reading {
         answer: x,
         number: x,
         start: x,
@@ -53,21 +71,21 @@ fn unwritten() -> Answer {
     }
 }
 
-pub fn read_next(bytes: &[u8], position: usize) -> Answer {
+pub fn read_next(bytes: &[u8], mut position: Position) -> Answer {
     let mut reading = unwritten();
-    unsafe { aglimtaq_read_next(bytes.as_ptr(), bytes.len(), position, &mut reading) };
-    reading
+    unsafe { aglimtaq_read_next(bytes.as_ptr(), bytes.len(), &mut position, &mut reading) };
+    Answer { position, reading }
 }
 
-pub fn read_previous(bytes: &[u8], position: usize) -> Answer {
+pub fn read_previous(bytes: &[u8], mut position: Position) -> Answer {
     let mut reading = unwritten();
-    unsafe { aglimtaq_read_previous(bytes.as_ptr(), bytes.len(), position, &mut reading) };
-    reading
+    unsafe { aglimtaq_read_previous(bytes.as_ptr(), bytes.len(), &mut position, &mut reading) };
+    Answer { position, reading }
 }
 
-pub fn parse(bytes: &[u8], base: u64) -> Answer {
+pub fn parse(bytes: &[u8], base: u64, form: Form) -> Reading {
     let mut reading = unwritten();
-    unsafe { aglimtaq_parse(bytes.as_ptr(), bytes.len(), base as usize, &mut reading) };
+    unsafe { aglimtaq_parse(bytes.as_ptr(), bytes.len(), base as usize, form.number(), &mut reading) };
     reading
 }
 
@@ -99,55 +117,56 @@ pub fn count(bytes: &[u8]) -> (u64, u64) {
     (records, end)
 }
 
-pub fn walk(bytes: &[u8]) -> Whole {
-    whole(bytes, aglimtaq_walk)
+pub fn walk(bytes: &[u8], form: Form) -> Whole {
+    whole(bytes, form, aglimtaq_walk)
 }
 
-pub fn walk_back(bytes: &[u8]) -> Whole {
-    whole(bytes, aglimtaq_walk_back)
+pub fn walk_back(bytes: &[u8], form: Form) -> Whole {
+    whole(bytes, form, aglimtaq_walk_back)
 }
 
-type Walk = unsafe extern "C" fn(*const u8, usize, *mut u64, *mut u64, *mut u64);
+type Walk = unsafe extern "C" fn(*const u8, usize, u64, *mut u64, *mut u64, *mut u64);
 
-fn whole(bytes: &[u8], walk: Walk) -> Whole {
+fn whole(bytes: &[u8], form: Form, walk: Walk) -> Whole {
     let x = UNWRITTEN;
     let (mut counts, mut sizes, mut end) = ([x; 8], [x; 64], [x; 3]);
     let (to_counts, to_sizes) = (counts.as_mut_ptr(), sizes.as_mut_ptr());
-    unsafe { walk(bytes.as_ptr(), bytes.len(), to_counts, to_sizes, end.as_mut_ptr()) };
+    unsafe { walk(bytes.as_ptr(), bytes.len(), form.number(), to_counts, to_sizes, end.as_mut_ptr()) };
     let [position, wanted, refused] = end;
     Whole { counts, sizes, position, wanted, refused }
 }
 
-/// What writing says, and the next position. The output is `out` without `around` bytes on each side.
+/// What writing says, and the position after it. The output is `out` without `around` bytes on each side.
 pub fn write(
     out: &mut [u8],
     around: usize,
-    position: usize,
+    mut position: Position,
     record: &mut FlatRecord,
     bytes: &[u8],
-) -> (u64, u64) {
-    let (room, mut next) = (out.len() - 2 * around, UNWRITTEN);
+) -> (u64, Position) {
+    let room = out.len() - 2 * around;
     let number = unsafe {
         let lent = out.as_mut_ptr().add(around);
-        aglimtaq_write(lent, room, position, record, bytes.as_ptr(), bytes.len(), &mut next)
+        aglimtaq_write(lent, room, &mut position, record, bytes.as_ptr(), bytes.len())
     };
-    (number, next)
+    (number, position)
 }
 
 /// What writing a list says, and what it leaves. The output is `out` without `around` bytes on each side.
 pub fn write_all(
     out: &mut [u8],
     around: usize,
-    position: usize,
+    mut position: Position,
     calls: &mut [Call],
     bytes: &mut [u8],
-) -> (u64, All) {
+) -> (u64, Position, All) {
     let (room, x) = (out.len() - 2 * around, UNWRITTEN);
-    let mut all = All { position: x, records: x, bytes: x };
+    let mut all = All { records: x, bytes: x };
     let number = unsafe {
         let lent = out.as_mut_ptr().add(around);
         let (from, count) = (calls.as_mut_ptr(), calls.len());
-        aglimtaq_write_all(lent, room, position, from, count, bytes.as_mut_ptr(), bytes.len(), &mut all)
+        let (slices, length) = (bytes.as_mut_ptr(), bytes.len());
+        aglimtaq_write_all(lent, room, &mut position, from, count, slices, length, &mut all)
     };
-    (number, all)
+    (number, position, all)
 }

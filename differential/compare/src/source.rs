@@ -1,9 +1,10 @@
 //! What the original Rust answers, in the terms of trace.h; and where it lies outside the domain of document 01.
 
-use crate::answer::{Answer, Entry, Part, Value, FINISHED, REFUSED, UNFINISHED};
+use crate::answer::{Answer, Entry, Part, Reading, Value, FINISHED, REFUSED, UNFINISHED};
+use crate::form::Form;
 use crate::panics::caught;
 use crate::shown::shown;
-use dynamic_trace::record::{parse_le64, Error as Why, FileMeta, ParseError, Record};
+use dynamic_trace::record::{Error as Why, FileMeta, ParseError, Record};
 use dynamic_trace::{index, lenlen, vlen, RawRecord};
 use std::error::Error;
 
@@ -31,13 +32,14 @@ pub enum Outside {
     Reallocated,
     /// It refuses an Arch record for its content, which document 01 leaves out.
     Arch,
-    /// The caller's mistakes in writing: 8 to 13, and what is not a record.
+    /// The caller's mistakes in writing: 8 to 14, and what is not a record.
     Position,
     Room,
     Long,
     Name,
     Tag,
     List,
+    Wide,
     NotARecord,
     /// It panics, or writes, in any other case. This counts as a difference.
     Unforeseen,
@@ -75,11 +77,11 @@ pub fn value(bytes: &[u8]) -> Said<Value> {
 }
 
 /// The one record that these bytes are.
-pub fn parse(bytes: &[u8]) -> Said<Answer> {
+pub fn parse(bytes: &[u8], form: Form) -> Said<Reading> {
     if bytes.is_empty() {
-        return Said::outside(Answer::refused(1), Outside::Empty);
+        return Said::outside(Reading::refused(1), Outside::Empty);
     }
-    match caught(|| RawRecord::new(bytes).parse(parse_le64)) {
+    match caught(|| RawRecord::new(bytes).parse(form.parse())) {
         Some(Ok(record)) => Said::inside(shown(bytes, &record)),
         Some(Err(error)) => refused(bytes, &error),
         None => panicked(bytes),
@@ -87,30 +89,34 @@ pub fn parse(bytes: &[u8]) -> Said<Answer> {
 }
 
 /// What is at `position`.
-pub fn next(bytes: &[u8], position: usize) -> Said<Answer> {
+pub fn next(bytes: &[u8], position: usize, form: Form) -> Said<Answer> {
     let rest = &bytes[position..];
     let start = position as u64;
     match index::one_record(rest) {
         Ok(length) => {
-            let Said { says, outside } = parse(&rest[..length]);
-            Said { says: says.framed(start, length as u64), outside }
+            let Said { says, outside } = parse(&rest[..length], form);
+            let reading = says.framed(start, length as u64);
+            Said { says: Answer { position: form.at(reading.end), reading }, outside }
         }
-        Err(_) if rest.is_empty() => Said::inside(Answer::last(FINISHED, start, 0)),
-        Err(wanted) => Said::inside(Answer::last(UNFINISHED, start, wanted as u64)),
+        Err(wanted) => {
+            let (answer, number) = if rest.is_empty() { (FINISHED, 0) } else { (UNFINISHED, wanted as u64) };
+            Said::inside(Answer { position: form.at(start), reading: Reading::last(answer, number) })
+        }
     }
 }
 
 /// The record from `start` up to `position`, read backwards.
-pub fn previous(bytes: &[u8], start: usize, position: usize) -> Said<Answer> {
-    let Said { says, outside } = parse(&bytes[start..position]);
-    Said { says: says.framed_back(start as u64, (position - start) as u64), outside }
+pub fn previous(bytes: &[u8], start: usize, position: usize, form: Form) -> Said<Answer> {
+    let Said { says, outside } = parse(&bytes[start..position], form);
+    let reading = says.framed(start as u64, (position - start) as u64);
+    Said { says: Answer { position: form.at(reading.start), reading }, outside }
 }
 
 /// Where the record starts that ends at `position`, or why there is none. The original has no such function; this is
 /// document 01's rule.
-pub fn start(bytes: &[u8], position: usize) -> Result<usize, Answer> {
+pub fn start(bytes: &[u8], position: usize) -> Result<usize, Reading> {
     let Some(&last) = bytes[..position].last() else {
-        return Err(Answer::last(FINISHED, 0, 0));
+        return Err(Reading::last(FINISHED, 0));
     };
     let found = match last {
         0 => position.checked_sub(5).and_then(|before| {
@@ -119,13 +125,13 @@ pub fn start(bytes: &[u8], position: usize) -> Result<usize, Answer> {
         }),
         _ => position.checked_sub(1 + usize::from(last)),
     };
-    found.ok_or(Answer::last(REFUSED, position as u64, NO_START))
+    found.ok_or(Reading::last(REFUSED, NO_START))
 }
 
 /// The names of the register list that starts at offset `list` of `record`, by their offsets in the list.
 pub fn names(record: &[u8], list: usize) -> Vec<Entry> {
-    let Ok(Record::FileMeta(FileMeta::RegisterNameMap(map))) = RawRecord::new(record).parse(parse_le64)
-    else {
+    let parsed = RawRecord::new(record).parse(Form::Le64.parse());
+    let Ok(Record::FileMeta(FileMeta::RegisterNameMap(map))) = parsed else {
         return Vec::new();
     };
     let entry = |(number, name): (u16, &[u8])| {
@@ -144,7 +150,7 @@ pub fn place(bytes: &[u8], part: &[u8]) -> Part {
 }
 
 /// The number of an error: that of the innermost one.
-fn refused(bytes: &[u8], error: &ParseError) -> Said<Answer> {
+fn refused(bytes: &[u8], error: &ParseError) -> Said<Reading> {
     let mut inner: Option<&(dyn Error + 'static)> = None;
     let mut outer = error.source();
     while let Some(error) = outer {
@@ -161,17 +167,17 @@ fn refused(bytes: &[u8], error: &ParseError) -> Said<Answer> {
     };
     if number == 4 && bytes[0] & 0xfc == 0 {
         let (_, content) = value(bytes).says;
-        return Said::outside(Answer::with_bytes(2, 0, content), Outside::Arch);
+        return Said::outside(Reading::with_bytes(2, 0, content), Outside::Arch);
     }
-    Said::inside(Answer::refused(number))
+    Said::inside(Reading::refused(number))
 }
 
 /// The refusal that document 01 defines where `parse` panics.
-fn panicked(bytes: &[u8]) -> Said<Answer> {
+fn panicked(bytes: &[u8]) -> Said<Reading> {
     let (number, content) = value(bytes).says;
     if number != 0 {
         let why = if short_span(bytes) { Outside::Span } else { Outside::Unforeseen };
-        return Said::outside(Answer::refused(2), why);
+        return Said::outside(Reading::refused(2), why);
     }
     let content = &bytes[content.start as usize..content.end as usize];
     let behind = content.len().saturating_sub(1);
@@ -183,7 +189,7 @@ fn panicked(bytes: &[u8]) -> Said<Answer> {
         (0x30, Some(11)) if behind < 16 => Outside::Reallocated,
         _ => Outside::Unforeseen,
     };
-    Said::outside(Answer::refused(4), why)
+    Said::outside(Reading::refused(4), why)
 }
 
 /// Whether the span ends in 0 and is shorter than five bytes.

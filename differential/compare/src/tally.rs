@@ -1,5 +1,6 @@
 //! What was compared, class by class, and the first difference.
 
+use compare::form::Form;
 use compare::hex::tokens;
 use compare::random::Random;
 use compare::source::{Outside, Said};
@@ -7,7 +8,7 @@ use std::fmt::{Debug, Display};
 use std::hint::black_box;
 
 /// What a reason for lying outside the domain is called in the report.
-const REASONS: [(Outside, &str); 16] = [
+const REASONS: [(Outside, &str); 17] = [
     (Outside::Empty, "no bytes"),
     (Outside::Span, "short span"),
     (Outside::Native, "RegWriteNative"),
@@ -22,16 +23,19 @@ const REASONS: [(Outside, &str); 16] = [
     (Outside::Name, "bad name"),
     (Outside::Tag, "taken tag"),
     (Outside::List, "short list"),
+    (Outside::Wide, "wide address"),
     (Outside::NotARecord, "no record"),
     (Outside::Unforeseen, "UNFORESEEN"),
 ];
 
 const ORIGINAL: &str = "the original";
 const DOCUMENT: &str = "document 01";
+const CHANGES: &str = "document 02";
 const SINGLE_CALLS: &str = "single calls";
 
 #[derive(Default)]
 pub struct Tally {
+    form: Form,
     inputs: u64,
     /// Inputs outside the domain, by the first reason found in them.
     reasons: [u64; REASONS.len()],
@@ -39,7 +43,7 @@ pub struct Tally {
     compared: u64,
     /// Answers of ours in reading backwards that frame no record: the original has no calls for them.
     unframed: u64,
-    /// Answers of ours outside the domain, compared with what document 01 defines there.
+    /// Answers of ours outside the domain, compared with what document 01 or 02 defines there.
     outside: u64,
     /// Answers of ours to an offset beyond the end, which the original has no calls for.
     beyond: u64,
@@ -53,6 +57,15 @@ pub struct Tally {
 }
 
 impl Tally {
+    /// Of inputs in one form.
+    pub fn new(form: Form) -> Self {
+        Tally { form, ..Self::default() }
+    }
+
+    pub fn form(&self) -> Form {
+        self.form
+    }
+
     /// Begins an input.
     pub fn begin(&mut self, bytes: &[u8]) {
         self.inputs += 1;
@@ -101,7 +114,8 @@ impl Tally {
         if reason == Outside::Unforeseen {
             self.differ(&what, at, ORIGINAL, &"does what was not foreseen", ours);
         }
-        self.equal(&what, at, DOCUMENT, &said.says, ours)
+        let document = if reason == Outside::Wide { CHANGES } else { DOCUMENT };
+        self.equal(&what, at, document, &said.says, ours)
     }
 
     /// The same, where the original answers.
@@ -151,8 +165,8 @@ impl Tally {
     fn differ(&mut self, what: &dyn Display, at: u64, who: &str, says: &dyn Debug, ours: &dyn Debug) {
         self.differences += 1;
         if self.first.is_none() {
-            let input = tokens(&self.input);
-            let compared = format!("input         {input}\ncompared      {what} {at}");
+            let (input, form) = (tokens(&self.input), self.form.name());
+            let compared = format!("input         {input}\ncompared      {what} {at}, form {form}");
             self.first = Some(format!("{compared}\n{who:<13} {says:?}\nours          {ours:?}"));
         }
     }
@@ -161,7 +175,7 @@ impl Tally {
         self.first.as_deref()
     }
 
-    pub fn add(&mut self, other: Tally) {
+    pub fn add(&mut self, other: &Tally) {
         self.inputs += other.inputs;
         for (sum, count) in self.reasons.iter_mut().zip(other.reasons) {
             *sum += count;
@@ -172,7 +186,7 @@ impl Tally {
         self.beyond += other.beyond;
         self.rows += other.rows;
         self.differences += other.differences;
-        self.first = self.first.take().or(other.first);
+        self.first = self.first.take().or_else(|| other.first.clone());
     }
 
     pub fn header() -> String {

@@ -1,5 +1,7 @@
 //! The 26 types that are written: the bits of their numbers, and what their bytes are, from document 01 and trace.h.
 
+use crate::form::Form;
+
 /// What the bytes are that are handed over with a record.
 #[derive(Clone, Copy, PartialEq, Eq)]
 pub enum Slice {
@@ -68,9 +70,19 @@ impl Type {
         !matches!(self.slice, Slice::Ignored | Slice::Name)
     }
 
+    /// How many of its numbers, the first ones, take the form: addresses, and the length of an Unmap.
+    pub fn formed(&self) -> usize {
+        match self.number {
+            MAP | 7 | 8 | 26 | 27 => 1,
+            6 => 2,
+            _ => 0,
+        }
+    }
+
     /// For a type that grows, how many content bytes come before those that are handed over.
-    pub fn head(&self) -> usize {
+    pub fn head(&self, form: Form) -> usize {
         let tag = usize::from(self.slice == Slice::List);
-        tag + self.bits.iter().sum::<u32>() as usize / 8
+        let others = self.bits[self.formed()..].iter().sum::<u32>() as usize / 8;
+        tag + self.formed() * form.width() + others
     }
 }

@@ -1,6 +1,6 @@
 //! The sum of a walk over a whole input, from the answers to single calls.
 
-use compare::answer::{Answer, REFUSED, REFUSED_AT, SHOWN, UNFINISHED};
+use compare::answer::{Answer, Reading, REFUSED, REFUSED_AT, SHOWN, UNFINISHED};
 use compare::source::{Outside, Said};
 
 /// What `aglimtaq_walk` and `aglimtaq_walk_back` write.
@@ -28,9 +28,9 @@ impl Adding {
 
     /// Adds what one call answers; true where it was the last of the walk.
     pub fn add(&mut self, bytes: &[u8], said: &Said<Answer>) -> bool {
-        let Answer { position, answer, number, start, end, .. } = said.says;
+        let Answer { position, reading: Reading { answer, number, start, end, .. } } = said.says;
         self.outside = self.outside.or(said.outside);
-        self.whole.position = position;
+        self.whole.position = position.at;
         match answer {
             SHOWN | REFUSED_AT => {
                 self.whole.counts[number as usize] += 1;

@@ -1,6 +1,7 @@
 //! What the original Rust emits; and where a record to be written lies outside the domain of document 01.
 
 use crate::answer::FlatRecord;
+use crate::form::Form;
 use crate::frame::{frame, Trailer, FILE_META, META};
 use crate::given::{entries, Given};
 use crate::panics::caught;
@@ -15,16 +16,17 @@ const LONG_CONTENT: u64 = 10;
 const BAD_NAME: u64 = 11;
 const TAKEN_TAG: u64 = 12;
 const SHORT_LIST: u64 = 13;
+const WIDE_ADDRESS: u64 = 14;
 const NOT_A_RECORD: u64 = 256;
 
 const LONGEST_CONTENT: usize = 65_530;
-const LONGEST_MAP: usize = 4_294_967_282;
+const LONGEST_MAP: usize = 4_294_967_290;
 
 /// Writes at `position` of an output of `room` bytes. Says 0, and appends the original's bytes to `trace`; or says the
 /// refusal, and appends nothing.
-pub fn write(given: &Given, room: usize, position: usize, trace: &mut Vec<u8>) -> Said<u64> {
+pub fn write(given: &Given, form: Form, room: usize, position: usize, trace: &mut Vec<u8>) -> Said<u64> {
     let before = trace.len();
-    let said = emit(given, trace);
+    let said = emit(given, form, trace);
     let length = trace.len() - before;
     let refused = match said.says {
         NOT_A_RECORD => return said,
@@ -37,14 +39,14 @@ pub fn write(given: &Given, room: usize, position: usize, trace: &mut Vec<u8>) -
 }
 
 /// The same, where there is room enough.
-pub fn emit(given: &Given, trace: &mut Vec<u8>) -> Said<u64> {
+pub fn emit(given: &Given, form: Form, trace: &mut Vec<u8>) -> Said<u64> {
     let Some(kind) = given.kind() else {
         return Said::outside(NOT_A_RECORD, Outside::NotARecord);
     };
     let before = trace.len();
-    let done = caught(|| original(given, trace));
-    let kept = done == Some(true) && reads_back(kind, given, &trace[before..]);
-    let said = match refusal(kind, given) {
+    let done = caught(|| original(given, form, trace));
+    let kept = done == Some(true) && reads_back(kind, given, form, &trace[before..]);
+    let said = match refusal(kind, given, form) {
         None if kept => return Said::inside(0),
         // It panics.
         Some((LONG_CONTENT, why)) if done.is_none() => Said::outside(LONG_CONTENT, why),
@@ -56,10 +58,14 @@ pub fn emit(given: &Given, trace: &mut Vec<u8>) -> Said<u64> {
     said
 }
 
-/// Document 01's refusals that lie in the record: 11, 12 or 13, then 10.
-fn refusal(kind: &Type, given: &Given) -> Option<(u64, Outside)> {
+/// The refusals of documents 01 and 02 that lie in the record: 11, 12 or 13, then 14, then 10.
+fn refusal(kind: &Type, given: &Given, form: Form) -> Option<(u64, Outside)> {
     let (bytes, number) = (&given.bytes[..], given.record.numbers[0]);
+    let formed = &given.record.numbers[..kind.formed()];
     let longest = match kind.slice {
+        _ if formed.iter().any(|&number| form.too_wide(number)) => {
+            return Some((WIDE_ADDRESS, Outside::Wide));
+        }
         Slice::Ignored => return None,
         Slice::Name if bytes.len() <= 32 && !bytes.contains(&0) && std::str::from_utf8(bytes).is_ok() => {
             return None;
@@ -67,15 +73,15 @@ fn refusal(kind: &Type, given: &Given) -> Option<(u64, Outside)> {
         Slice::Name => return Some((BAD_NAME, Outside::Name)),
         Slice::Unknown(least) if number < least => return Some((TAKEN_TAG, Outside::Tag)),
         Slice::List if (entries(bytes).0.len() as u64) < number => return Some((SHORT_LIST, Outside::List)),
-        _ if kind.number == types::MAP => LONGEST_MAP,
-        _ => LONGEST_CONTENT - kind.head(),
+        _ if kind.number == types::MAP => LONGEST_MAP - kind.head(form),
+        _ => LONGEST_CONTENT - kind.head(form),
     };
     (bytes.len() > longest).then_some((LONG_CONTENT, Outside::Long))
 }
 
 /// Whether the original shows again what was given.
-fn reads_back(kind: &Type, given: &Given, emitted: &[u8]) -> bool {
-    let shown = source::parse(emitted).says;
+fn reads_back(kind: &Type, given: &Given, form: Form, emitted: &[u8]) -> bool {
+    let shown = source::parse(emitted, form).says;
     let count = kind.bits.len();
     let bytes = &emitted[shown.bytes_start as usize..shown.bytes_end as usize];
     shown.record_type == kind.number
@@ -84,11 +90,11 @@ fn reads_back(kind: &Type, given: &Given, emitted: &[u8]) -> bool {
 }
 
 /// Has the original emit it; false where it cannot make such a record.
-fn original(given: &Given, out: &mut Vec<u8>) -> bool {
+fn original(given: &Given, form: Form, out: &mut Vec<u8>) -> bool {
     let mut frame = Vec::new();
     match record(given, &mut frame) {
         Some(record) => {
-            record.emit(out, emit_le64);
+            record.emit(out, form.emit());
             true
         }
         None => false,
@@ -153,5 +159,5 @@ fn meta(record_type: u64, [a, b, c]: [u64; 3], data: &[u8]) -> Option<Meta<'stat
 /// What the original shows of this content.
 fn parsed<'a>(kind: u8, head: &[u8], data: &[u8], out: &'a mut Vec<u8>) -> Option<Record<'a>> {
     frame(out, kind, 4, &[head, data].concat(), Trailer::Five);
-    RawRecord::new(out).parse(parse_le64).ok()
+    RawRecord::new(out).parse(Form::Le64.parse()).ok()
 }

@@ -10,13 +10,15 @@ mod stage;
 mod tasks;
 mod trace;
 
+use compare::form::{Form, FORMS};
+use dynamic_trace::TraceBuffer;
 use names::{Names, SETS};
 use pool::{gather, tell, Races, PROCESSES};
-use race::{race, ROUNDS};
-use stage::{Input, Stage};
+use race::{race, race_forms, ROUNDS};
+use stage::{InForm, Input, Stage};
 use std::process::ExitCode;
-use tasks::{Task, OURS, WALKS, WORKLOADS};
-use trace::{calls, cut, originals, room, Plan};
+use tasks::{Task, Workload, IN_FORMS, OURS, WALKS, WORKLOADS};
+use trace::{calls, cut, in_form, narrow, originals, written, Plan};
 
 const MIB: usize = 1 << 20;
 
@@ -56,12 +58,24 @@ fn staged<T>(amount: Amount, work: impl FnOnce(&mut Stage) -> T) -> T {
     let trace = trace::trace(amount.trace);
     let plan = Plan::new(amount.records);
     let given = plan.given();
-    let calls = calls(&given);
+    let first_calls = calls(&given);
     let records = originals(&given);
+    let first = written(Form::Le64, &records);
     let names: Vec<Names> = (0..SETS).map(|set| Names::new(set, amount.names)).collect();
     let names: Vec<Vec<&[u8]>> = names.iter().map(|set| set.all()).collect();
-    let mut stage = Stage::new(&trace, &given, plan.list(&calls), &records, &names, room(&records));
-    work(&mut stage)
+    let list = plan.list(&first_calls);
+    let first = InForm { form: Form::Le64, trace: &trace, given: &given, list, written: &first };
+
+    let units = TraceBuffer::new(&trace).iter().count() as u64;
+    let traces = FORMS.map(|form| in_form(form, units));
+    let narrow = narrow(&given);
+    let narrow_calls = calls(&narrow);
+    let all_written = FORMS.map(|form| written(form, &originals(&narrow)));
+    let forms = FORMS.map(|form| {
+        let (trace, written) = (&traces[form as usize], &all_written[form as usize]);
+        InForm { form, trace, given: &narrow, list: plan.list(&narrow_calls), written }
+    });
+    work(&mut Stage::new(first, &records, forms, &names))
 }
 
 /// What one process does: all races.
@@ -78,7 +92,16 @@ fn rounds() {
             let rounds = race(stage, &WALKS, Input::Trace);
             tell(&named(part), stage.size(Input::Trace), &rounds);
         }
+        for workload in IN_FORMS.map(Workload::find) {
+            let rounds = race_forms(stage, workload.ours, workload.input);
+            tell(&in_forms(workload.name), stage.size(workload.input), &rounds);
+        }
     })
+}
+
+/// The name of a workload's race in all forms.
+fn in_forms(workload: &str) -> String {
+    format!("{workload}_forms")
 }
 
 /// The name of the race on a part of the trace, in MiB.
@@ -97,10 +120,22 @@ fn timed() -> usize {
     println!("A time is the median of {PROCESSES} processes of {ROUNDS} rounds each, or more.");
     println!("It is for one record or name. MB: a million bytes.");
     report::comparisons_head();
-    let missed = WORKLOADS.iter().map(|workload| report::comparisons(workload, &races[workload.name])).sum();
+    let compared = |workload: &Workload| report::comparisons(workload, &races[workload.name]);
+    let missed: usize = WORKLOADS.iter().map(compared).sum();
     println!("\nTargets missed: {missed}.");
+    let above = formed(&races);
     grown(&races);
-    missed
+    missed + above
+}
+
+/// The table of the forms; how many times are above the limit.
+fn formed(races: &Races) -> usize {
+    println!("\nOurs in each form of addresses, on the same records:");
+    report::forms_head();
+    let compared = |name: &&str| report::forms(Workload::find(name), &races[&in_forms(name)]);
+    let above = IN_FORMS.iter().map(compared).sum();
+    println!("\nForms above the limit: {above}.");
+    above
 }
 
 fn grown(races: &Races) {
@@ -111,8 +146,13 @@ fn grown(races: &Races) {
     report::growth(&PARTS.map(|part| format!("{part} MiB")), &parts);
 }
 
-/// The tasks whose instructions are counted: workload, side, and the name of the function.
+/// The tasks whose instructions are counted: workload, side or form, and the name of the function.
 fn list() {
+    for workload in IN_FORMS.map(Workload::find) {
+        for form in FORMS {
+            println!("{} {} {}", workload.name, form.name(), workload.ours.symbol);
+        }
+    }
     for workload in &WORKLOADS {
         let own = |task: &&Task| task.side != OURS || std::ptr::eq(*task, workload.ours);
         for task in workload.tasks().into_iter().filter(own) {
@@ -123,10 +163,13 @@ fn list() {
 
 /// Runs one task once, and says how many records or names it went through.
 fn count(name: &str, side: &str) {
-    let workload = WORKLOADS.iter().find(|workload| workload.name == name).expect("a workload");
+    let workload = Workload::find(name);
+    let form = FORMS.into_iter().find(|form| form.name() == side);
+    let side = if form.is_some() { OURS } else { side };
     let task = workload.tasks().into_iter().find(|task| task.side == side).expect("a side");
     staged(COUNTED, |stage| {
         stage.choose(workload.input);
+        form.into_iter().for_each(|form| stage.take(form));
         (task.run)(stage);
         println!("{}", stage.size(workload.input).units);
     })

@@ -1,7 +1,8 @@
 //! Times tasks side by side: in each round each of them, one after the other, on the same input.
 
-use crate::stage::{Input, Stage, Tally, COUNT, END};
+use crate::stage::{Input, Stage, Tally, COUNT, END, KINDS};
 use crate::tasks::Task;
+use compare::form::FORMS;
 use std::time::{Duration, Instant};
 
 /// The least number of rounds; and the time until which more are done.
@@ -15,6 +16,20 @@ pub fn race(stage: &mut Stage, tasks: &[&Task], input: Input) -> Vec<Vec<u64>> {
     let begin = Instant::now();
     while rounds[0].len() < ROUNDS || begin.elapsed() < SPENT {
         for (task, times) in tasks.iter().zip(&mut rounds) {
+            times.push(once(stage, task).as_nanos() as u64);
+        }
+    }
+    rounds
+}
+
+/// The same of one task in each form, on the same records.
+pub fn race_forms(stage: &mut Stage, task: &Task, input: Input) -> Vec<Vec<u64>> {
+    agree_in_forms(stage, task, input);
+    let mut rounds = vec![Vec::new(); FORMS.len()];
+    let begin = Instant::now();
+    while rounds[0].len() < ROUNDS || begin.elapsed() < SPENT {
+        for (form, times) in FORMS.into_iter().zip(&mut rounds) {
+            stage.take(form);
             times.push(once(stage, task).as_nanos() as u64);
         }
     }
@@ -49,6 +64,32 @@ fn agree(stage: &mut Stage, tasks: &[&Task], input: Input) {
         if input == Input::Records {
             let first = written.get_or_insert_with(|| stage.written(task).to_vec());
             assert!(stage.written(task) == first, "{} writes something else", task.symbol);
+        }
+    }
+}
+
+/// The first round of the forms. In each the task must go through the whole input, find as many records shown and
+/// refused as in the first, and write what the original writes.
+fn agree_in_forms(stage: &mut Stage, task: &Task, input: Input) {
+    let mut first: Option<Tally> = None;
+    for form in FORMS {
+        stage.take(form);
+        stage.wipe(input);
+        once(stage, task);
+        let (found, size) = (stage.answer, stage.size(input));
+        let end = if task.ends_at_0() { 0 } else { size.bytes };
+        assert_eq!(found[END], end, "{} ends elsewhere in {}", task.symbol, form.name());
+        let expected = *first.get_or_insert(found);
+        assert_eq!(found[COUNT..KINDS], expected[COUNT..KINDS], "{} in {}", task.symbol, form.name());
+        assert_eq!(found[COUNT], size.units, "{} finds another number in {}", task.symbol, form.name());
+        if input == Input::Records {
+            let written = stage.forms[form as usize].written;
+            assert!(
+                stage.written(task) == written,
+                "{} writes something else in {}",
+                task.symbol,
+                form.name()
+            );
         }
     }
 }

@@ -2,7 +2,8 @@
 
 use crate::pool::{Race, Times};
 use crate::stage::Size;
-use crate::tasks::{Task, Workload, OURS, WALKS, WORKLOADS};
+use crate::tasks::{Task, Workload, IN_FORMS, MOST_IN_FORMS, OURS, WALKS, WORKLOADS};
+use compare::form::FORMS;
 use std::collections::HashMap;
 
 impl Size {
@@ -10,9 +11,14 @@ impl Size {
         self.bytes as f64 * 1000.0 / nanoseconds
     }
 
-    /// The time of one record or name, and the megabytes (of a million bytes) of a second.
+    /// The time of one record or name.
+    fn time(&self, nanoseconds: f64) -> String {
+        format!("{:.2} ns", nanoseconds / self.units as f64)
+    }
+
+    /// The same, and the megabytes (of a million bytes) of a second.
     fn cell(&self, nanoseconds: f64) -> String {
-        format!("{:.2} ns, {:.0} MB/s", nanoseconds / self.units as f64, self.rate(nanoseconds))
+        format!("{}, {:.0} MB/s", self.time(nanoseconds), self.rate(nanoseconds))
     }
 }
 
@@ -50,6 +56,31 @@ pub fn comparisons(workload: &Workload, race: &Race) -> usize {
     missed
 }
 
+pub fn forms_head() {
+    head(&["workload", "LE64", "form", "time", "ratio", "of the fastest rounds", "limit", "met"]);
+}
+
+/// A row for each form of a workload but the first; returns how many are above the limit.
+pub fn forms(workload: &Workload, race: &Race) -> usize {
+    let (times, mut above) = (race.times(), 0);
+    let first = times[0];
+    for (form, time) in FORMS.iter().zip(&times).skip(1) {
+        let ratio = time.median / first.median;
+        above += usize::from(ratio > MOST_IN_FORMS);
+        row(&[
+            format!("{}: {}", workload.name, workload.title),
+            race.size.time(first.median),
+            form.name().into(),
+            race.size.time(time.median),
+            format!("{ratio:.3}"),
+            format!("{:.3}", time.fastest / first.fastest),
+            format!("{MOST_IN_FORMS:.2}"),
+            if ratio > MOST_IN_FORMS { "NO" } else { "yes" }.into(),
+        ]);
+    }
+    above
+}
+
 fn walk(task: &Task) -> String {
     format!("{}, {}", task.workload, task.side)
 }
@@ -77,13 +108,33 @@ pub fn growth(titles: &[String], races: &[&Race]) {
 
 /// Instructions for each record or name, from lines of: workload, side, instructions, records or names.
 pub fn counted(lines: &str) {
-    let mut counts = HashMap::new();
+    let mut counts = Counts::new();
     for line in lines.lines() {
         let words: Vec<&str> = line.split_whitespace().collect();
         let [workload, side, instructions, units] = words[..] else { panic!("not a count: {line}") };
         let number = |word: &str| word.parse::<f64>().expect("a number");
         counts.insert((workload, side), number(instructions) / number(units));
     }
+    counted_beside(&counts);
+    counted_in_forms(&counts);
+}
+
+/// By workload, and by side or, in another form than the first, the form.
+type Counts<'a> = HashMap<(&'a str, &'a str), f64>;
+
+fn counted_in_forms(counts: &Counts) {
+    println!("\nThe same in each form:");
+    let names: Vec<&str> = FORMS.iter().map(|form| form.name()).collect();
+    head(&[&["workload"], &names[..]].concat());
+    for name in IN_FORMS {
+        let workload = Workload::find(name);
+        let count = |side: &&str| format!("{:.1}", counts[&(name, *side)]);
+        let title = format!("{name}: {}", workload.title);
+        row(&[title].into_iter().chain(names.iter().map(count)).collect::<Vec<_>>());
+    }
+}
+
+fn counted_beside(counts: &Counts) {
     println!("\nInstructions for each record or name, counted by callgrind on a smaller input:");
     head(&["workload", "ours", "against", "theirs", "ratio"]);
     for workload in &WORKLOADS {

@@ -2,6 +2,7 @@
 
 use crate::tasks::{Task, OURS};
 use compare::answer::{Call, FlatRecord};
+use compare::form::{Form, FORMS};
 use dynamic_trace::record::Record;
 use dynamic_trace::TraceBuffer;
 
@@ -20,6 +21,17 @@ pub type Given<'a> = (FlatRecord, &'a [u8]);
 /// Calls that write records, and the bytes of all of them, one after the other.
 pub type List<'a> = (&'a [Call], &'a [u8]);
 
+/// What ours takes in one form: a trace; records, each by itself and all at once; and the bytes that these have when
+/// they are written.
+#[derive(Clone, Copy)]
+pub struct InForm<'a> {
+    pub form: Form,
+    pub trace: &'a [u8],
+    pub given: &'a [Given<'a>],
+    pub list: List<'a>,
+    pub written: &'a [u8],
+}
+
 /// Which of the inputs a workload takes.
 #[derive(Clone, Copy, PartialEq)]
 pub enum Input {
@@ -37,11 +49,14 @@ pub struct Size {
 }
 
 pub struct Stage<'a> {
+    pub form: Form,
     pub trace: &'a [u8],
     /// The same records three times: as ours takes each, as it takes all at once, and as the original takes them.
     pub given: &'a [Given<'a>],
     pub list: List<'a>,
     pub records: &'a [Record<'a>],
+    /// The same trace and records in each form; the addresses of the records are those that four bytes hold.
+    pub forms: [InForm<'a>; FORMS.len()],
     /// The sets of names, and the one that is in use.
     pub sets: &'a [Vec<&'a [u8]>],
     pub names: &'a [&'a [u8]],
@@ -57,16 +72,24 @@ pub struct Stage<'a> {
 impl<'a> Stage<'a> {
     /// Both outputs have at least `room` bytes. All are written here, so that no task is the first to touch a page.
     pub fn new(
-        trace: &'a [u8],
-        given: &'a [Given<'a>],
-        list: List<'a>,
+        first: InForm<'a>,
         records: &'a [Record<'a>],
+        forms: [InForm<'a>; FORMS.len()],
         sets: &'a [Vec<&'a [u8]>],
-        room: usize,
     ) -> Self {
+        let InForm { form, trace, given, list, written } = first;
+        let room = written.len();
         let (out, mut emitted) = (vec![1; room.max(trace.len())], vec![1; room]);
         emitted.clear();
-        Stage { trace, given, list, records, sets, names: &[], out, emitted, room, answer: [0; 75] }
+        let (names, answer) = (&[][..], [0; 75]);
+        Stage { form, trace, given, list, records, forms, sets, names, out, emitted, room, answer }
+    }
+
+    /// From here on ours takes the trace and the records of a form.
+    pub fn take(&mut self, form: Form) {
+        let InForm { form, trace, given, list, written } = self.forms[form as usize];
+        (self.form, self.trace, self.given, self.list) = (form, trace, given, list);
+        self.room = written.len();
     }
 
     pub fn choose(&mut self, input: Input) {

@@ -79,11 +79,19 @@ pub static WORKLOADS: [Workload; 12] = [
     on_records("records written, one call for all", &G_OURS, &[(&C_ORIGINAL, None), (&C_OURS, None)]),
 ];
 
+/// What ours does in every form, and how much of its time in the first form it may take in another.
+pub static IN_FORMS: [&str; 6] = ["b", "c", "d", "f", "f_back", "g"];
+pub const MOST_IN_FORMS: f64 = 1.15;
+
 /// What is timed on traces that grow, beside a plain copy of them.
 pub static WALKS: [&Task; 10] =
     [&COPY, &A_OURS, &A_ORIGINAL, &B_OURS, &B_ORIGINAL, &B_LAZY, &D_OURS, &F_OURS, &F_ORIGINAL, &F_LAZY];
 
 impl Workload {
+    pub fn find(name: &str) -> &'static Workload {
+        WORKLOADS.iter().find(|workload| workload.name == name).expect("a workload")
+    }
+
     /// Ours first.
     pub fn tasks(&self) -> Vec<&'static Task> {
         std::iter::once(self.ours).chain(self.others.iter().map(|other| other.0)).collect()

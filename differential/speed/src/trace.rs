@@ -4,9 +4,11 @@
 use crate::names;
 use crate::stage::{Given, List};
 use compare::answer::{Call, FlatRecord};
+use compare::form::Form;
 use compare::random::Random;
+use compare::types::Type;
 use compare::writing::made;
-use dynamic_trace::record::{emit_le64, Arch, Record};
+use dynamic_trace::record::{Arch, Record};
 use dynamic_trace::TraceBuffer;
 
 const MAGIC: u64 = 1;
@@ -115,27 +117,39 @@ fn flat(record_type: u64, number: u64) -> FlatRecord {
     FlatRecord { record_type, numbers: [number, 0, 0] }
 }
 
-fn emit(record: FlatRecord, data: &[u8], out: &mut Vec<u8>) {
-    made(record, data).expect("a record of the original").emit(out, emit_le64);
+fn emit(form: Form, record: FlatRecord, data: &[u8], out: &mut Vec<u8>) {
+    made(record, data).expect("a record of the original").emit(out, form.emit());
 }
 
-/// A trace of at most `size` bytes, as the original emits it.
+/// A trace of at most `size` bytes in the first form, as the original emits it.
 pub fn trace(size: usize) -> Vec<u8> {
-    let (mut mix, mut data, mut out) = (Mix::default(), Vec::new(), Vec::with_capacity(size + (1 << 20)));
+    let mut out = emitted(Form::Le64, |_, bytes| bytes >= size);
+    out.truncate(cut(&out, size).len());
+    out
+}
+
+/// The first records of the same trace in another form. In four bytes the original cuts an address.
+pub fn in_form(form: Form, records: u64) -> Vec<u8> {
+    emitted(form, |count, _| count == records)
+}
+
+/// The records of a trace, until there are enough of them, by their number and their bytes.
+fn emitted(form: Form, enough: impl Fn(u64, usize) -> bool) -> Vec<u8> {
+    let (mut mix, mut data, mut out, mut count) = (Mix::default(), Vec::new(), Vec::new(), 3);
     for number in 0..REGISTERS {
         let name = format!("register_{number}");
         data.extend_from_slice(&[number as u8, 0, name.len() as u8]);
         data.extend_from_slice(name.as_bytes());
     }
-    emit(flat(MAGIC, 0), &[], &mut out);
-    emit(flat(REGISTER_NAME_MAP, REGISTERS as u64), &data, &mut out);
-    Record::from(Arch::X86_64).emit(&mut out, emit_le64);
-    while out.len() < size {
+    emit(form, flat(MAGIC, 0), &[], &mut out);
+    emit(form, flat(REGISTER_NAME_MAP, REGISTERS as u64), &data, &mut out);
+    Record::from(Arch::X86_64).emit(&mut out, form.emit());
+    while !enough(count, out.len()) {
         data.clear();
         let record = mix.next(&mut data);
-        emit(record, &data, &mut out);
+        emit(form, record, &data, &mut out);
+        count += 1;
     }
-    out.truncate(cut(&out, size).len());
     out
 }
 
@@ -175,6 +189,16 @@ impl Plan {
     }
 }
 
+/// The same with addresses that four bytes hold.
+pub fn narrow<'a>(given: &[Given<'a>]) -> Vec<Given<'a>> {
+    let cut = |&(mut record, bytes): &Given<'a>| {
+        let formed = Type::find(record.record_type).map_or(0, Type::formed);
+        record.numbers[..formed].iter_mut().for_each(|number| *number &= u64::from(u32::MAX));
+        (record, bytes)
+    };
+    given.iter().map(cut).collect()
+}
+
 /// A call for each.
 pub fn calls(given: &[Given]) -> Vec<Call> {
     given.iter().map(|&(record, bytes)| Call { record, length: bytes.len() as u64 }).collect()
@@ -185,13 +209,9 @@ pub fn originals<'a>(given: &[Given<'a>]) -> Vec<Record<'a>> {
     given.iter().map(|&(record, bytes)| made(record, bytes).expect("a record of the original")).collect()
 }
 
-/// How many bytes they have when they are written.
-pub fn room(records: &[Record]) -> usize {
-    let mut one = Vec::new();
-    let length = |record: &Record| {
-        one.clear();
-        record.emit(&mut one, emit_le64);
-        one.len()
-    };
-    records.iter().map(length).sum()
+/// What the original writes of them in a form.
+pub fn written(form: Form, records: &[Record]) -> Vec<u8> {
+    let mut out = Vec::new();
+    records.iter().for_each(|record| record.emit(&mut out, form.emit()));
+    out
 }

@@ -2,6 +2,7 @@
 
 use super::Use;
 use crate::content::{need, META_NEEDS};
+use crate::form::Form;
 use crate::frame::*;
 use crate::random::Random;
 
@@ -10,19 +11,19 @@ const FILLS: [fn(usize, &mut Random) -> u8; 4] =
     [|_, _| 0, |_, _| 0xff, |place, _| place as u8 + 1, |_, random| random.byte()];
 
 /// All 64 kinds, known and unknown.
-pub fn kinds(fine: usize, use_input: Use) {
+pub fn kinds(fine: usize, form: Form, use_input: Use) {
     let mut random = Random::new(1);
     for kind in (0..=252u8).step_by(4) {
         use_input(&[kind]);
         use_input(&[kind, kind]);
-        for size in 0..=need(kind) + 2 {
+        for size in 0..=need(kind, form) + 2 {
             fills(fine, size, &mut random, &mut |content| frames(kind, content, use_input));
         }
     }
 }
 
 /// Every tag byte of Meta and FileMeta.
-pub fn tags(fine: usize, use_input: Use) {
+pub fn tags(fine: usize, _: Form, use_input: Use) {
     let mut random = Random::new(2);
     for kind in [META, FILE_META] {
         for tag in 0..=255u8 {
@@ -68,7 +69,7 @@ fn frames(kind: u8, content: &[u8], use_input: Use) {
 }
 
 /// Lengths at the limits of their widths, up to the largest, with few bytes after them.
-pub fn lengths(_: usize, use_input: Use) {
+pub fn lengths(_: usize, _: Form, use_input: Use) {
     let borders = [7, 8, 15, 16, 24, 31, 32].map(|bits| 1u64 << bits);
     for kind in (0..=252u8).step_by(4) {
         for width in WIDTHS {
@@ -86,7 +87,7 @@ pub fn lengths(_: usize, use_input: Use) {
 }
 
 /// Traces of eight tags of Meta and of FileMeta each, with as many bytes as each tag takes.
-pub fn tag_rows(_: usize, use_input: Use) {
+pub fn tag_rows(_: usize, _: Form, use_input: Use) {
     for kind in [META, FILE_META] {
         for row in (0..=248u8).step_by(8) {
             let mut bytes = Vec::new();
@@ -105,7 +106,7 @@ pub fn tag_rows(_: usize, use_input: Use) {
 }
 
 /// The magic bytes: cut, longer, with each byte altered, in other frames, and twice.
-pub fn magic(_: usize, use_input: Use) {
+pub fn magic(_: usize, _: Form, use_input: Use) {
     for cut in 0..=MAGIC_BYTES.len() {
         use_input(&MAGIC_BYTES[..cut]);
     }

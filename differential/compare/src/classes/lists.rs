@@ -2,6 +2,7 @@
 
 use super::Use;
 use crate::content::entry;
+use crate::form::Form;
 use crate::frame::{frame, written, Trailer, FILE_META, TRAILERS, WIDTHS};
 use crate::random::Random;
 
@@ -9,7 +10,7 @@ type UseList<'a> = &'a mut dyn FnMut(u8, &[u8]);
 
 const LONGEST_LIST: usize = 65_528;
 
-pub fn lists(count: usize, use_input: Use) {
+pub fn lists(count: usize, _: Form, use_input: Use) {
     fixed(&mut |count, list| {
         if list.len() <= LONGEST_LIST {
             let mut bytes = Vec::new();

@@ -9,25 +9,26 @@ pub mod traces;
 mod trailers;
 pub mod writing;
 
+use crate::form::Form;
 use crate::frame::{self, KINDS};
 use kinds::{kinds, lengths, magic, tag_rows, tags};
 use lists::lists;
 use names::names;
 use sizes::sizes;
-use traces::{damaged, emitted, random_strings, written};
+use traces::{damaged, emitted, other_forms, random_strings, written};
 use trailers::trailers;
 
 pub type Use<'a, T = [u8]> = &'a mut dyn FnMut(&T);
 
 pub struct Class<T: ?Sized = [u8]> {
     pub name: &'static str,
-    make: fn(usize, Use<T>),
+    make: fn(usize, Form, Use<T>),
     /// How many inputs are asked for in the bounded and in the long run. For a class with a fixed end it says how fine
     /// the class is.
     bounded: usize,
     long: usize,
-    /// How many are kept.
-    pub kept: usize,
+    /// How many are kept in the first form, and in each other form.
+    kept: [usize; 2],
 }
 
 #[derive(Clone, Copy, PartialEq, Eq)]
@@ -37,38 +38,48 @@ pub enum Run {
 }
 
 impl<T: ?Sized> Class<T> {
-    pub fn make(&self, run: Run, use_input: Use<T>) {
-        let amount = if run == Run::Long { self.long } else { self.bounded };
-        (self.make)(amount, use_input);
+    /// In the long run the other forms together have as much as the first.
+    pub fn make(&self, run: Run, form: Form, use_input: Use<T>) {
+        let amount = match (run, form) {
+            (Run::Bounded, _) => self.bounded,
+            (Run::Long, Form::Le64) => self.long,
+            (Run::Long, _) => self.bounded.max(self.long / 3),
+        };
+        (self.make)(amount, form, use_input);
+    }
+
+    pub fn kept(&self, form: Form) -> usize {
+        self.kept[usize::from(form != Form::Le64)]
     }
 }
 
 const fn class<T: ?Sized>(
     name: &'static str,
-    make: fn(usize, Use<T>),
+    make: fn(usize, Form, Use<T>),
     [bounded, long]: [usize; 2],
-    kept: usize,
+    kept: [usize; 2],
 ) -> Class<T> {
     Class { name, make, bounded, long, kept }
 }
 
-pub const CLASSES: [Class; 16] = [
-    class("examples", examples, [1, 1], 99),
-    class("up to three bytes", up_to_three, [1, 1], 300),
-    class("four bytes", four, [1, 2], 100),
-    class("kinds and sizes", kinds, [1, 20], 350),
-    class("tags and sizes", tags, [1, 10], 300),
-    class("lengths", lengths, [1, 1], 100),
-    class("all tags in rows", tag_rows, [1, 1], 64),
-    class("Magic", magic, [1, 1], 60),
-    class("names", names, [1, 20], 300),
-    class("register lists", lists, [300_000, 10_000_000], 300),
-    class("large contents", sizes, [1, 2], 60),
-    class("trailers", trailers, [1, 10], 0),
-    class("written traces", written, [500_000, 10_000_000], 250),
-    class("emitted traces", emitted, [200_000, 5_000_000], 250),
-    class("damaged traces", damaged, [3_000_000, 60_000_000], 350),
-    class("random strings", random_strings, [3_000_000, 60_000_000], 300),
+pub const CLASSES: [Class; 17] = [
+    class("examples", examples, [1, 1], [99, 9]),
+    class("up to three bytes", up_to_three, [1, 1], [300, 0]),
+    class("four bytes", four, [1, 2], [100, 0]),
+    class("kinds and sizes", kinds, [1, 20], [350, 90]),
+    class("tags and sizes", tags, [1, 10], [300, 0]),
+    class("lengths", lengths, [1, 1], [100, 0]),
+    class("all tags in rows", tag_rows, [1, 1], [64, 0]),
+    class("Magic", magic, [1, 1], [60, 0]),
+    class("names", names, [1, 20], [300, 0]),
+    class("register lists", lists, [300_000, 10_000_000], [300, 0]),
+    class("large contents", sizes, [1, 2], [60, 20]),
+    class("trailers", trailers, [1, 10], [0, 0]),
+    class("written traces", written, [500_000, 10_000_000], [250, 60]),
+    class("emitted traces", emitted, [200_000, 5_000_000], [250, 60]),
+    class("damaged traces", damaged, [3_000_000, 60_000_000], [350, 60]),
+    class("random strings", random_strings, [3_000_000, 60_000_000], [300, 30]),
+    class("other forms", other_forms, [300_000, 3_000_000], [0, 30]),
 ];
 
 /// Document 01's examples, and the smallest inputs outside its domain.
@@ -100,7 +111,7 @@ const EXAMPLES: &[&str] = &[
 pub const NAMES: [&[u8]; 5] =
     [b"\xe2\x82\xac", b"\xf4\x8f\xbf\xbf", b"\xc0\x80", b"\xed\xa0\x80", b"\xf4\x90\x80\x80"];
 
-fn examples(_: usize, use_input: Use) {
+fn examples(_: usize, _: Form, use_input: Use) {
     for text in EXAMPLES {
         let byte = |pair| u8::from_str_radix(pair, 16).expect("two digits");
         let bytes: Vec<u8> = text.split_whitespace().map(byte).collect();
@@ -116,7 +127,7 @@ fn examples(_: usize, use_input: Use) {
     }
 }
 
-fn up_to_three(_: usize, use_input: Use) {
+fn up_to_three(_: usize, _: Form, use_input: Use) {
     use_input(&[]);
     for a in 0..=255 {
         use_input(&[a]);
@@ -132,7 +143,7 @@ fn up_to_three(_: usize, use_input: Use) {
 }
 
 /// A kind with one length byte, a length of up to three, and any two bytes: the known kinds, or all.
-fn four(fine: usize, use_input: Use) {
+fn four(fine: usize, _: Form, use_input: Use) {
     for kind in (0..=252u8).step_by(4) {
         if fine > 1 || KINDS.contains(&kind) {
             for length in 0..=3 {

@@ -1,6 +1,7 @@
 //! CallBegin names at the limits of RFC 3629, at several offsets in their 32 bytes.
 
 use super::Use;
+use crate::form::Form;
 use crate::frame::{written, META};
 use crate::random::Random;
 
@@ -23,7 +24,7 @@ pub const CHARACTERS: [&str; 11] = [
     "\u{10ffff}",
 ];
 
-pub fn names(fine: usize, use_input: Use) {
+pub fn names(fine: usize, _: Form, use_input: Use) {
     sequences(fine, &mut |sequence| {
         for start in [0, 5, 28, 29, 30, 31] {
             let mut field = [b'a'; 32];

@@ -1,12 +1,13 @@
 //! Contents about the limits of the length's widths, and longer than a writer takes.
 
 use super::Use;
+use crate::form::Form;
 use crate::frame::*;
 
 const SIZES: [usize; 12] = [0, 1, 251, 252, 253, 254, 255, 256, 257, 65_529, 65_530, 65_531];
 const LARGER: [usize; 8] = [65_526, 65_534, 65_535, 65_536, 65_537, 70_000, 131_072, 1_000_000];
 
-pub fn sizes(fine: usize, use_input: Use) {
+pub fn sizes(fine: usize, _: Form, use_input: Use) {
     for kind in KINDS.into_iter().chain([0x08]) {
         for size in SIZES {
             fills(kind, size, use_input);

@@ -2,10 +2,11 @@
 //! off.
 
 use super::Use;
+use crate::form::Form;
 use crate::frame::*;
 use crate::random::Random;
 
-pub fn trailers(fine: usize, use_input: Use) {
+pub fn trailers(fine: usize, _: Form, use_input: Use) {
     let mut random = Random::new(18);
     for _ in 0..fine {
         for kind in [ARCH, FILE_META, META, PC, MEM_WRITE, MAGIC, 0x08] {

@@ -5,10 +5,10 @@ use Rattle.kept_answers.proofs.answers.answer.Statement.{statement}
 use Rattle.kept_answers.proofs.answers.answer.Tie as tie
 
 abbrev Inv-loop : tie.InvT-loop
-Inv-loop bytes reading₀ position₀ left₀ t5 t6 reading position left = Unit {0}
+Inv-loop bytes form reading₀ position₀ left₀ t6 t7 reading position left = Unit {0}
 
 abbrev μ-loop : tie.MeasureT-loop
-μ-loop bytes reading₀ position₀ left₀ t5 t6 reading position left = left
+μ-loop bytes form reading₀ position₀ left₀ t6 t7 reading position left = left
 
 add-left : tie.Need-add-left Inv-loop μ-loop
 add-left c = search needs
@@ -21,6 +21,9 @@ aglimtaq-read-next-requires c κs = search needs
 
 array-read-if1 : tie.Need-array-read-if1 Inv-loop μ-loop
 array-read-if1 c = search needs
+
+array-read-last : tie.Need-array-read-last Inv-loop μ-loop
+array-read-last c = search needs
 
 last-requires : tie.Need-last-requires Inv-loop μ-loop
 last-requires c κs = search needs
@@ -42,9 +45,6 @@ slice-aggregate-text c = search needs
 
 text-requires : tie.Need-text-requires Inv-loop μ-loop
 text-requires c κs = search needs
-
-array-read-position : tie.Need-array-read-position Inv-loop μ-loop
-array-read-position c = search needs
 
 sub-left : tie.Need-sub-left Inv-loop μ-loop
 sub-left c = search needs
@@ -74,6 +74,7 @@ answer-spec =
     loop-holds
     aglimtaq-read-next-requires
     array-read-if1
+    array-read-last
     last-requires
     returns
     frame-requires
@@ -81,7 +82,6 @@ answer-spec =
     shown-requires
     slice-aggregate-text
     text-requires
-    array-read-position
     sub-left
     loop-less
     loop-again

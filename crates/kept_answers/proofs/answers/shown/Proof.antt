@@ -1,4 +1,4 @@
--- `kept_answers::answers::shown` is safe and ends: six numbers of the eleven.
+-- `kept_answers::answers::shown` is safe and ends: six numbers of the ten.
 -- Assumes nothing.
 use Prim.Native.Nat.{_-_, _≤_}
 use borrow.Author.Needs.{needs}
@@ -6,10 +6,10 @@ use Rattle.kept_answers.proofs.answers.shown.Statement.{statement}
 use Rattle.kept_answers.proofs.answers.shown.Tie as tie
 
 abbrev Inv-loop : tie.InvT-loop
-Inv-loop bytes reading i₀ t4 i = i ≤ 11
+Inv-loop bytes reading i₀ t4 i = i ≤ 10
 
 abbrev μ-loop : tie.MeasureT-loop
-μ-loop bytes reading i₀ t4 i = 11 - i
+μ-loop bytes reading i₀ t4 i = 10 - i
 
 loop-holds : tie.Need-loop-holds Inv-loop μ-loop
 loop-holds c = search needs

@@ -21,6 +21,9 @@ labelled-requires c κs = search needs
 returns : tie.Need-returns
 returns c = search needs
 
+array-read-end : tie.Need-array-read-end
+array-read-end c = search needs
+
 slice-aggregate-text : tie.Need-slice-aggregate-text
 slice-aggregate-text c = search needs
 
@@ -51,6 +54,7 @@ written-spec =
     slice-aggregate-labelled
     labelled-requires
     returns
+    array-read-end
     slice-aggregate-text
     text-requires
     returns-2

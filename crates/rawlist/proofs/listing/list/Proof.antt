@@ -4,6 +4,7 @@ use mathlib.Core.Path.{sym, ap, subst, _∙_}
 use Prim.Native.Nat.{_≤_}
 use native.Mathlib.Omega.{arith}
 use lib.ListN.{length}
+use Rattle.records.specs.declared.address.AddressForm.{AddressForm}
 use Rattle.records.specs.declared.position.Reading.{Reading}
 use Rattle.records.specs.Positions.{here, readNext}
 use Rattle.rawlist.proofs.StepLaws.{next-within, left, left-less}
@@ -33,7 +34,7 @@ inside : (c : tie.After-position Inv-loop μ-loop) → c .before .before .next-f
 inside c =
     let s = c .before .before .before .before .before .before .before .args .s .now in
     let l = c .before .before .before .before .before .loop in
-    subst (λ (r : Reading). r .position .at ≤ length s) (sym (c .before .before .next-from .ensures ∙ ap (readNext s) (c .before .before .before .at .ensures))) (next-within s (here (l .at)) (l .inv))
+    subst (λ (r : Reading). r .position .at ≤ length s) (sym (c .before .before .next-from .ensures ∙ ap (readNext s) (c .before .before .before .at .ensures))) (next-within s (here AddressForm.Le64 (l .at)) (l .inv))
 
 loop-less : tie.Need-loop-less Inv-loop μ-loop
 loop-less c = rw (c .before .before .before .before .loop-test .taken) (left-less _ _ _ (inside c))

@@ -14,14 +14,14 @@ of-record-requires c κs = search needs
 enum-known-answer-2 : tie.Need-enum-known-answer-2
 enum-known-answer-2 c = search needs
 
-cast-t17 : tie.Need-cast-t17
-cast-t17 c = search needs
+cast-t15 : tie.Need-cast-t15
+cast-t15 c = search needs
 
 enum-known-answer-3 : tie.Need-enum-known-answer-3
 enum-known-answer-3 c = search needs
 
-cast-t20 : tie.Need-cast-t20
-cast-t20 c = search needs
+cast-t18 : tie.Need-cast-t18
+cast-t18 c = search needs
 
 enum-told : tie.Need-enum-told
 enum-told c = search needs
@@ -56,9 +56,9 @@ of-answer-spec =
     enum-known-answer
     of-record-requires
     enum-known-answer-2
-    cast-t17
+    cast-t15
     enum-known-answer-3
-    cast-t20
+    cast-t18
     enum-told
     enum-known-answer-4
     returns

@@ -3,6 +3,7 @@
 use mathlib.Core.Path.{sym, ap, subst, _∙_}
 use native.Mathlib.Omega.{arith}
 use borrow.Author.Needs.{needs}
+use Rattle.records.specs.declared.address.AddressForm.{AddressForm}
 use Rattle.records.specs.declared.position.Reading.{Reading}
 use Rattle.records.proofs.AheadLaws.{Ahead, next-ahead}
 use Rattle.records.specs.Positions.{here, readNext}
@@ -24,7 +25,7 @@ record-line-requires : tie.Need-record-line-requires
 unfolding Ahead
 record-line-requires c κs =
     let a = c .before .before .before .before .before .before .args in
-    let q = subst (Ahead (a .s .now) (a .at)) (ap (λ (r : Reading). r .answer) (sym (c .before .before .before .read-next-in .ensures ∙ ap (readNext _) (c .before .before .before .before .at .ensures))) ∙ c .before .answer .given .1) (next-ahead (a .s .now) (here (a .at))) in
+    let q = subst (Ahead (a .s .now) (a .at)) (ap (λ (r : Reading). r .answer) (sym (c .before .before .before .read-next-in .ensures ∙ ap (readNext _) (c .before .before .before .before .at .ensures))) ∙ c .before .answer .given .1) (next-ahead (a .s .now) (here AddressForm.Le64 (a .at))) in
     (c .before .before .before .before .before .before .pre, omega (arith, q .0, q .1), q .2)
 
 enum-known-answer-2 : tie.Need-enum-known-answer-2
@@ -34,7 +35,7 @@ record-line-requires-2 : tie.Need-record-line-requires-2
 unfolding Ahead
 record-line-requires-2 c κs =
     let a = c .before .before .before .before .before .before .args in
-    let q = subst (Ahead (a .s .now) (a .at)) (ap (λ (r : Reading). r .answer) (sym (c .before .before .before .read-next-in .ensures ∙ ap (readNext _) (c .before .before .before .before .at .ensures))) ∙ c .before .answer2 .given .1) (next-ahead (a .s .now) (here (a .at))) in
+    let q = subst (Ahead (a .s .now) (a .at)) (ap (λ (r : Reading). r .answer) (sym (c .before .before .before .read-next-in .ensures ∙ ap (readNext _) (c .before .before .before .before .at .ensures))) ∙ c .before .answer2 .given .1) (next-ahead (a .s .now) (here AddressForm.Le64 (a .at))) in
     (c .before .before .before .before .before .before .pre, omega (arith, q .0, q .1), q .2)
 
 enum-told : tie.Need-enum-told

@@ -8,10 +8,10 @@ use Rattle.vectors.proofs.call_lists.write_all.Statement.{statement}
 use Rattle.vectors.proofs.call_lists.write_all.Tie as tie
 
 abbrev Inv-loop : tie.InvT-loop
-Inv-loop out₀ pool book₀ tally₀ seed₀ state₀ i₀ out book tally seed state i = (length out ≡ length out₀) × (length book ≡ length book₀) × (length tally ≡ length tally₀)
+Inv-loop form out₀ pool book₀ tally₀ seed₀ state₀ i₀ out book tally seed state i = (length out ≡ length out₀) × (length book ≡ length book₀) × (length tally ≡ length tally₀)
 
 abbrev μ-loop : tie.MeasureT-loop
-μ-loop out₀ pool book₀ tally₀ seed₀ state₀ i₀ out book tally seed state i = 60 - i
+μ-loop form out₀ pool book₀ tally₀ seed₀ state₀ i₀ out book tally seed state i = 60 - i
 
 loop-holds : tie.Need-loop-holds Inv-loop μ-loop
 loop-holds c = search needs

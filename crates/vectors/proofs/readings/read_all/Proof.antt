@@ -8,10 +8,10 @@ use Rattle.vectors.proofs.readings.read_all.Statement.{statement}
 use Rattle.vectors.proofs.readings.read_all.Tie as tie
 
 abbrev Inv-loop : tie.InvT-loop
-Inv-loop s pool book tally₀ k₀ tally k = (k ≤ length s) × (length tally ≡ length tally₀)
+Inv-loop form s pool book tally₀ k₀ tally k = (k ≤ length s) × (length tally ≡ length tally₀)
 
 abbrev μ-loop : tie.MeasureT-loop
-μ-loop s pool book tally₀ k₀ tally k = length s - k
+μ-loop form s pool book tally₀ k₀ tally k = length s - k
 
 read-on-requires : tie.Need-read-on-requires Inv-loop μ-loop
 read-on-requires c κs = search needs

@@ -7,10 +7,10 @@ use Rattle.vectors.proofs.readings.read_back.Statement.{statement}
 use Rattle.vectors.proofs.readings.read_back.Tie as tie
 
 abbrev Inv-loop : tie.InvT-loop
-Inv-loop s pool book tally₀ at₀ left₀ tally at left = length tally ≡ length tally₀
+Inv-loop form s pool book tally₀ at₀ left₀ tally at left = length tally ≡ length tally₀
 
 abbrev μ-loop : tie.MeasureT-loop
-μ-loop s pool book tally₀ at₀ left₀ tally at left = left
+μ-loop form s pool book tally₀ at₀ left₀ tally at left = left
 
 loop-holds : tie.Need-loop-holds Inv-loop μ-loop
 loop-holds c = search needs

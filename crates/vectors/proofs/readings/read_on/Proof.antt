@@ -8,10 +8,10 @@ use Rattle.vectors.proofs.readings.read_on.Statement.{statement}
 use Rattle.vectors.proofs.readings.read_on.Tie as tie
 
 abbrev Inv-loop : tie.InvT-loop
-Inv-loop s pool book kind tally₀ count at₀ i₀ tally at i = (count < 18446744073709551616) × (length tally ≡ length tally₀)
+Inv-loop form s pool book kind tally₀ count at₀ i₀ tally at i = (count < 18446744073709551616) × (length tally ≡ length tally₀)
 
 abbrev μ-loop : tie.MeasureT-loop
-μ-loop s pool book kind tally₀ count at₀ i₀ tally at i = count - i
+μ-loop form s pool book kind tally₀ count at₀ i₀ tally at i = count - i
 
 loop-holds : tie.Need-loop-holds Inv-loop μ-loop
 loop-holds c = search needs

@@ -1,6 +1,7 @@
 //! Contents of every length up to forty, and about the limits of the frames; and every tag.
 
 use super::Give;
+use crate::form::Form;
 use crate::given::Given;
 use crate::random::Random;
 use crate::types::{Slice, Type, MAP, TYPES};
@@ -12,20 +13,20 @@ const SIZES: [usize; 16] =
 const MAPS: [usize; 6] = [65_531, 65_535, 65_536, 65_544, 131_072, 1_000_000];
 
 /// Every type: bytes that it takes, `fine` times, and any bytes.
-pub fn contents(fine: usize, give: Give) {
+pub fn contents(fine: usize, form: Form, give: Give) {
     let mut random = Random::new(13);
     for kind in &TYPES {
         for length in 0..=40 {
             for fill in FILLS {
-                give(&[Given::raw(&mut random, kind, &vec![fill; length])]);
+                give(&[Given::raw(&mut random, form, kind, &vec![fill; length])]);
             }
             for _ in 0..fine {
-                give(&[Given::good(&mut random, kind, length)]);
+                give(&[Given::good(&mut random, form, kind, length)]);
             }
             for _ in 0..fine.div_ceil(10) {
                 let mut bytes = Vec::new();
                 random.bytes(length, &mut bytes);
-                give(&[Given::raw(&mut random, kind, &bytes)]);
+                give(&[Given::raw(&mut random, form, kind, &bytes)]);
             }
         }
     }
@@ -33,20 +34,20 @@ pub fn contents(fine: usize, give: Give) {
 
 /// Every type whose content grows, at the sizes of content where the frame changes; and larger Maps. Other types are
 /// handed as many bytes.
-pub fn sizes(fine: usize, give: Give) {
+pub fn sizes(fine: usize, form: Form, give: Give) {
     let mut random = Random::new(14);
     for kind in &TYPES {
-        let head = if kind.grows() { kind.head() } else { 0 };
+        let head = if kind.grows() { kind.head(form) } else { 0 };
         for size in SIZES {
             fills(&mut random, size - head, &mut |random, bytes| {
-                give(&[Given::raw(random, kind, bytes)]);
-                refused(random, kind, bytes, give);
+                give(&[Given::raw(random, form, kind, bytes)]);
+                refused(random, form, kind, bytes, give);
             });
         }
     }
     let map = Type::find(MAP).expect("Map");
     for size in MAPS.into_iter().cycle().take(MAPS.len() * fine) {
-        fills(&mut random, size, &mut |random, bytes| give(&[Given::raw(random, map, bytes)]));
+        fills(&mut random, size, &mut |random, bytes| give(&[Given::raw(random, form, map, bytes)]));
     }
 }
 
@@ -63,8 +64,8 @@ fn fills(random: &mut Random, length: usize, use_bytes: &mut dyn FnMut(&mut Rand
 }
 
 /// A tag that is taken, or a list that holds one entry less than it counts.
-fn refused(random: &mut Random, kind: &Type, bytes: &[u8], give: Give) {
-    let mut given = Given::raw(random, kind, bytes);
+fn refused(random: &mut Random, form: Form, kind: &Type, bytes: &[u8], give: Give) {
+    let mut given = Given::raw(random, form, kind, bytes);
     let number = &mut given.record.numbers[0];
     match kind.slice {
         Slice::Unknown(least) => *number = random.below(least as usize) as u64,
@@ -75,7 +76,7 @@ fn refused(random: &mut Random, kind: &Type, bytes: &[u8], give: Give) {
 }
 
 /// Every tag of the unknown types, also those that are taken.
-pub fn tags(fine: usize, give: Give) {
+pub fn tags(fine: usize, _: Form, give: Give) {
     for number in [21, 4] {
         for tag in 0..=255 {
             for length in (2..2 + fine).chain([0, 1]) {

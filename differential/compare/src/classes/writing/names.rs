@@ -2,6 +2,7 @@
 
 use super::Give;
 use crate::classes::names::{sequences, CHARACTERS};
+use crate::form::Form;
 use crate::given::{name, Given};
 use crate::random::Random;
 
@@ -13,7 +14,7 @@ fn give_name(name: &[u8], give: Give) {
 
 /// Every length, and three that are too long: of each character as many as fit, filled up with the digit 1; or with the
 /// last one cut.
-pub fn names(_: usize, give: Give) {
+pub fn names(_: usize, _: Form, give: Give) {
     for length in 0..=35 {
         for character in CHARACTERS.iter().cycle().skip(length).take(CHARACTERS.len()) {
             let fits = length / character.len();
@@ -27,7 +28,7 @@ pub fn names(_: usize, give: Give) {
 
 /// The limits of RFC 3629, zero bytes at every offset, and random characters, of which half the time one byte is
 /// altered.
-pub fn texts(fine: usize, give: Give) {
+pub fn texts(fine: usize, _: Form, give: Give) {
     sequences(fine, &mut |sequence| {
         for (before, length) in [(0, 1), (0, 2), (0, 3), (0, 4), (7, 4), (28, 4), (29, 3), (31, 1)] {
             give_name(&[&[b'a'; 31][..before], &sequence[..length]].concat(), give);

@@ -1,6 +1,7 @@
 //! Numbers at the limits of all widths; and what is not a record.
 
 use super::Give;
+use crate::form::Form;
 use crate::given::{numbers as fitting, Given};
 use crate::random::Random;
 use crate::types::{Slice, Type, TYPES};
@@ -13,26 +14,26 @@ const NO_TYPES: [u64; 14] =
 
 /// Every type with each of its numbers at each limit, or random, whether they fit or not; and with each length of
 /// bytes.
-pub fn numbers(fine: usize, give: Give) {
+pub fn numbers(fine: usize, form: Form, give: Give) {
     let mut random = Random::new(11);
     let choices = BORDERS.len() + 1;
     for kind in &TYPES {
         for choice in 0..choices.pow(kind.bits.len() as u32) {
-            let mut numbers = fitting(&mut random, kind);
+            let mut numbers = fitting(&mut random, form, kind);
             for (place, number) in numbers[..kind.bits.len()].iter_mut().enumerate() {
                 let border = BORDERS.get(choice / choices.pow(place as u32) % choices);
                 *number = border.copied().unwrap_or(*number);
             }
             for length in (0..=40).cycle().take(41 * fine) {
-                give(&[with(&mut random, kind, numbers, length)]);
+                give(&[with(&mut random, form, kind, numbers, length)]);
             }
         }
     }
 }
 
 /// The numbers, and bytes to go with them: for a register list as many entries as it counts.
-fn with(random: &mut Random, kind: &Type, numbers: [u64; 3], length: usize) -> Given {
-    let mut given = Given::good(random, kind, length);
+fn with(random: &mut Random, form: Form, kind: &Type, numbers: [u64; 3], length: usize) -> Given {
+    let mut given = Given::good(random, form, kind, length);
     given.record.numbers = numbers;
     if kind.slice == Slice::List {
         let entry = [&[0x34, 0x12, length as u8], &[b'r'; 40][..length]].concat();
@@ -42,7 +43,7 @@ fn with(random: &mut Random, kind: &Type, numbers: [u64; 3], length: usize) -> G
 }
 
 /// What is not a record: nothing else must be looked at, so the bytes may be wrong in any way.
-pub fn wrong(fine: usize, give: Give) {
+pub fn wrong(fine: usize, form: Form, give: Give) {
     let mut random = Random::new(12);
     for _ in 0..fine {
         for record_type in NO_TYPES {
@@ -53,7 +54,7 @@ pub fn wrong(fine: usize, give: Give) {
             for place in (0..kind.bits.len()).filter(|&place| kind.bits[place] < 64) {
                 let least = 1 << kind.bits[place];
                 for number in [least, least + 20, least << 8 | 1, 1 << 63, u64::MAX] {
-                    let mut numbers = fitting(&mut random, kind);
+                    let mut numbers = fitting(&mut random, form, kind);
                     numbers[place] = number;
                     bytes(&mut random, &mut |bytes| give(&[Given::new(kind.number, numbers, bytes)]));
                 }

@@ -2,18 +2,19 @@
 
 use super::Give;
 use crate::content::size;
+use crate::form::Form;
 use crate::given::Given;
 use crate::random::Random;
 use crate::types::{Slice, TYPES};
 
-pub fn rows(count: usize, give: Give) {
+pub fn rows(count: usize, form: Form, give: Give) {
     let mut random = Random::new(17);
     let mut row = Vec::new();
     for _ in 0..count {
         row.clear();
         for _ in 0..1 + random.below(12) {
             let (kind, length) = (&TYPES[random.below(TYPES.len())], size(&mut random));
-            let mut given = Given::good(&mut random, kind, length);
+            let mut given = Given::good(&mut random, form, kind, length);
             if random.once_in(20) {
                 spoil(&mut random, kind.slice, &mut given);
             }
