@@ -19,7 +19,7 @@ use Rattle.trace_c.specs.Fields.{flatAnswer, flatParsed}
 
 -- ---- struct aglimtaq_reading, and struct aglimtaq_position after the call
 
--- refused for its form, "before anything else": 257, and no position is moved
+-- refused for its form, before all else: 257, and no position is moved
 abbrev pub noForm : List ℕ
 noForm = 2 ∷ 257 ∷ 0 ∷ 0 ∷ 0 ∷ 0 ∷ 0 ∷ 0 ∷ 0 ∷ 0 ∷ []
 
