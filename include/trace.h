@@ -68,7 +68,7 @@ enum aglimtaq_refusal {
     /* The caller's mistakes. */
     AGLIMTAQ_BEYOND_END = 8,    /* the position lies beyond the end of the bytes */
     AGLIMTAQ_NO_ROOM = 9,       /* the output is too small for the record */
-    AGLIMTAQ_LONG_CONTENT = 10, /* the content is too long for its type */
+    AGLIMTAQ_LONG_CONTENT = 10, /* the content is longer than 4,294,967,290 bytes */
     AGLIMTAQ_BAD_NAME = 11,     /* a name over 32 bytes, with a zero byte, or that is not UTF-8 */
     AGLIMTAQ_TAKEN_TAG = 12,    /* the tag of an unknown type that another type has */
     AGLIMTAQ_SHORT_LIST = 13,   /* a register list that does not hold its count of entries */
@@ -198,7 +198,8 @@ struct aglimtaq_record {
 };
 
 /* Writes a record at the position in `out`; the first call writes at 0. The record's name, register list or
- * contents are the `length` bytes at `bytes`; a type that has none of these ignores them.
+ * contents are the `length` bytes at `bytes`; a type that has none of these ignores them. A record's content is its
+ * numbers and these bytes, 4,294,967,290 bytes at most.
  *
  * Returns 0, and the position becomes that after the record, where the next call writes. Or returns why the record
  * is refused; then the position is kept, and no byte of `out` is altered. Of several reasons the first in this order

@@ -77,6 +77,7 @@ int main(void)
     content_of("content-253", 253);
     content_of("content-254", 254);
     content_of("content-65530", 65530);
+    content_of("content-65531", 65531);
     small_trace();
     return 0;
 }

@@ -51,7 +51,7 @@ static const struct bad refused[] = {
     {{AGLIMTAQ_CALL_BEGIN, {0x1000, 0, 0}, 3}, "\xed\xa0\x80", 3, AGLIMTAQ_BAD_NAME},
     {{AGLIMTAQ_UNKNOWN_META, {11, 0, 0}, 0}, "", 0, AGLIMTAQ_TAKEN_TAG},
     {{AGLIMTAQ_REGISTER_NAME_MAP, {2, 0, 0}, 5}, "\0\0\2r0", 5, AGLIMTAQ_SHORT_LIST},
-    {{AGLIMTAQ_MEM_WRITE, {0x2000, 0, 0}, LONG}, zeros, LONG, AGLIMTAQ_LONG_CONTENT},
+    {{AGLIMTAQ_MEM_WRITE, {0x2000, 0, 0}, LONG}, zeros, LONG, AGLIMTAQ_NO_ROOM},
     {{AGLIMTAQ_NO_TYPE, {0, 0, 0}, 0}, "", 0, AGLIMTAQ_NOT_A_RECORD},
     {{AGLIMTAQ_ARCH, {0, 0, 0}, 4}, "arch", 4, AGLIMTAQ_NOT_A_RECORD},
     {{28, {0, 0, 0}, 0}, "", 0, AGLIMTAQ_NOT_A_RECORD},

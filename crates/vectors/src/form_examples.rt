@@ -1,6 +1,6 @@
 // Examples of writing in the address forms of document 02's M-100, with refusal 14 beside what is just
-// accepted and in its place among the others. A line is as in the examples of document 01, with the form
-// first and two numbers.
+// accepted, after 8 and before 9. A line is as in the examples of document 01, with the form first and two
+// numbers.
 use crate::calls::Call;
 use crate::lines::edges;
 use crate::lines::numbers;
@@ -10,8 +10,9 @@ use crate::write_examples::written;
 
 // To each example its form, its type, its numbers, how many bytes its slice has, and the position:
 // Instruction, Unmap and Map in the three new forms; Pc and Unmap at the border of four bytes; CallEnd,
-// whose address is not in the form; Instruction around 254 and 65,530 bytes of content, of which the address
-// has 4; Pc at the end of the buffer and beyond it.
+// whose address is not in the form; Instruction with 253, 254, 65,530 and 65,531 bytes of content, of which
+// the address has 4, and the last again at an address that is too wide; Pc at the end of the buffer and
+// beyond it.
 fn numbers_at(i: usize) -> [u64; 6] {
     match i {
         0 => [1, 7, 4096, 0, 3, 3],

@@ -1,6 +1,7 @@
-// Document 01's examples of writing, and each of its refusals of writing beside what is just accepted. A
-// line has the call and its bytes, those written, 0 or the number of the refusal, the position handed back,
-// and the remainder of the whole buffer, which held aa everywhere before. All are in form 0.
+// Document 01's examples of writing, with a longer content of document 02's M-101, and each of 01's
+// refusals of writing beside what is just accepted, but for 10, which would take 4 GB. A line has the call
+// and its bytes, those written, 0 or the number of the refusal, the position handed back, and the remainder
+// of the whole buffer, which held aa everywhere before. All are in form 0.
 use crate::calls::Call;
 use crate::lines::edges;
 use crate::lines::numbers;
@@ -15,9 +16,9 @@ use console::print;
 use records::bytes::bytes;
 
 // To each example its type, its first number, where its slice lies in the pool and how many bytes it has,
-// and the position: Instruction around 254 and 65,530 bytes of content, of which the address has 8; Map;
-// CallBegin with five names; Pc at the end of the buffer and beyond it; more names, of 33, 32, 3 bytes and
-// none; unknown Meta and FileMeta; register lists.
+// and the position: Instruction with 253, 254, 65,530 and 65,531 bytes of content, of which the address has
+// 8; Map; CallBegin with five names; Pc at the end of the buffer and beyond it; more names, of 33, 32, 3
+// bytes and none; unknown Meta and FileMeta; register lists.
 fn numbers_at(i: usize) -> [u64; 5] {
     match i {
         0 => [7, 4096, 2048, 245, 3],
