@@ -26,12 +26,14 @@ pub fn check(row: &[Given], tally: &mut Tally) {
     write_row(row, position, room, tally);
 }
 
-/// The length of a record as the original emits it; for one that is refused, more than it would have.
+/// The length of a record as it must be written; for one that is refused, more than it would have.
 fn length(given: &Given, form: Form) -> usize {
     let mut emitted = Vec::new();
-    match emit(given, form, &mut emitted).outside {
-        None => emitted.len(),
-        Some(_) => given.bytes.len() + 60,
+    let written = emit(given, form, &mut emitted).writes();
+    if written {
+        emitted.len()
+    } else {
+        given.bytes.len() + 60
     }
 }
 
@@ -78,7 +80,7 @@ fn write_row(row: &[Given], first: usize, room: usize, tally: &mut Tally) {
 
 struct Output {
     room: usize,
-    /// The original's output: what was before the first position, and what it emitted.
+    /// What was before the first position, and then what the original emitted, or document 02 has written.
     trace: Vec<u8>,
     /// What ours must hold, with the bytes around it; and what it holds.
     must: Vec<u8>,
@@ -99,8 +101,8 @@ impl Output {
         let said = write(given, form, self.room, position, &mut self.trace);
         let frame = self.trace.get(position..).unwrap_or(&[]);
         let next = position + frame.len();
-        if said.outside.is_none() {
-            // The rule for reading backwards finds what the original emits.
+        if said.writes() {
+            // The rule for reading backwards finds what is written.
             assert!(source::start(&self.trace, next) == Ok(position), "a trailer that leads elsewhere");
             let place = AROUND + position..AROUND + next;
             self.must[place.clone()].copy_from_slice(frame);

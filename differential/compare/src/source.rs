@@ -10,7 +10,7 @@ use std::error::Error;
 
 const NO_START: u64 = 6;
 
-/// An answer that ours must equal: the original's own or, outside the domain, the one that document 01 defines.
+/// An answer that ours must equal: the original's own or, outside the domain, the one that document 01 or 02 defines.
 pub struct Said<T> {
     pub says: T,
     pub outside: Option<Outside>,
@@ -32,15 +32,17 @@ pub enum Outside {
     Reallocated,
     /// It refuses an Arch record for its content, which document 01 leaves out.
     Arch,
-    /// The caller's mistakes in writing: 8 to 14, and what is not a record.
+    /// The caller's mistakes in writing: 8, 9, 11 to 14, and what is not a record.
     Position,
     Room,
-    Long,
     Name,
     Tag,
     List,
     Wide,
     NotARecord,
+    /// It panics: a content above 65,530 bytes to write, in any type but Map. This is accepted: M-101 of document 02 has
+    /// the bytes, which the original reads.
+    Long,
     /// It panics, or writes, in any other case. This counts as a difference.
     Unforeseen,
 }
@@ -52,6 +54,13 @@ impl<T> Said<T> {
 
     pub fn outside(says: T, why: Outside) -> Self {
         Said { says, outside: Some(why) }
+    }
+}
+
+impl Said<u64> {
+    /// Whether a record is written.
+    pub fn writes(&self) -> bool {
+        self.says == 0 && self.outside != Some(Outside::Unforeseen)
     }
 }
 

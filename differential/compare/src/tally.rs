@@ -19,12 +19,12 @@ const REASONS: [(Outside, &str); 17] = [
     (Outside::Arch, "Arch"),
     (Outside::Position, "position"),
     (Outside::Room, "room"),
-    (Outside::Long, "long content"),
     (Outside::Name, "bad name"),
     (Outside::Tag, "taken tag"),
     (Outside::List, "short list"),
     (Outside::Wide, "wide address"),
     (Outside::NotARecord, "no record"),
+    (Outside::Long, "long content in M-101's frame"),
     (Outside::Unforeseen, "UNFORESEEN"),
 ];
 
@@ -114,7 +114,8 @@ impl Tally {
         if reason == Outside::Unforeseen {
             self.differ(&what, at, ORIGINAL, &"does what was not foreseen", ours);
         }
-        let document = if reason == Outside::Wide { CHANGES } else { DOCUMENT };
+        let changed = matches!(reason, Outside::Wide | Outside::Long);
+        let document = if changed { CHANGES } else { DOCUMENT };
         self.equal(&what, at, document, &said.says, ours)
     }
 

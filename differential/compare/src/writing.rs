@@ -1,8 +1,9 @@
-//! What the original Rust emits; and where a record to be written lies outside the domain of document 01.
+//! What the original Rust emits; and where a record to be written lies outside the domain of document 01, with what is
+//! written there.
 
 use crate::answer::FlatRecord;
 use crate::form::Form;
-use crate::frame::{frame, Trailer, FILE_META, META};
+use crate::frame::{frame, written, Trailer, FILE_META, LONGEST_OF_TWO, META};
 use crate::given::{entries, Given};
 use crate::panics::caught;
 use crate::source::{self, Outside, Said};
@@ -12,18 +13,14 @@ use dynamic_trace::RawRecord;
 
 const BEYOND_END: u64 = 8;
 const NO_ROOM: u64 = 9;
-const LONG_CONTENT: u64 = 10;
 const BAD_NAME: u64 = 11;
 const TAKEN_TAG: u64 = 12;
 const SHORT_LIST: u64 = 13;
 const WIDE_ADDRESS: u64 = 14;
 const NOT_A_RECORD: u64 = 256;
 
-const LONGEST_CONTENT: usize = 65_530;
-const LONGEST_MAP: usize = 4_294_967_290;
-
-/// Writes at `position` of an output of `room` bytes. Says 0, and appends the original's bytes to `trace`; or says the
-/// refusal, and appends nothing.
+/// Writes at `position` of an output of `room` bytes. Says 0, and appends the original's bytes to `trace`, or those of
+/// document 02 where the content is long; or says the refusal, and appends nothing.
 pub fn write(given: &Given, form: Form, room: usize, position: usize, trace: &mut Vec<u8>) -> Said<u64> {
     let before = trace.len();
     let said = emit(given, form, trace);
@@ -45,38 +42,55 @@ pub fn emit(given: &Given, form: Form, trace: &mut Vec<u8>) -> Said<u64> {
     };
     let before = trace.len();
     let done = caught(|| original(given, form, trace));
-    let kept = done == Some(true) && reads_back(kind, given, form, &trace[before..]);
-    let said = match refusal(kind, given, form) {
-        None if kept => return Said::inside(0),
-        // It panics.
-        Some((LONG_CONTENT, why)) if done.is_none() => Said::outside(LONG_CONTENT, why),
+    let refusal = refusal(kind, given, form);
+    let long = refusal.is_none() && long(kind, given, form);
+    if long && done.is_none() {
+        trace.truncate(before);
+        frame_long(kind, given, form, trace);
+    }
+    let kept = (long || done == Some(true)) && reads_back(kind, given, form, &trace[before..]);
+    let said = match refusal {
+        None if kept && !long => return Said::inside(0),
+        // It panics, but reads what document 02 has written.
+        None if kept && done.is_none() => return Said::outside(0, Outside::Long),
         // It does not take it, or reads something else back.
-        Some((number, why)) if number != LONG_CONTENT && !kept => Said::outside(number, why),
+        Some((number, why)) if !kept => Said::outside(number, why),
         refusal => Said::outside(refusal.map_or(0, |(number, _)| number), Outside::Unforeseen),
     };
     trace.truncate(before);
     said
 }
 
-/// The refusals of documents 01 and 02 that lie in the record: 11, 12 or 13, then 14, then 10.
+/// The refusals of documents 01 and 02 that lie in the record: 11, 12 or 13, then 14. No content here is so long that 10
+/// would come after them.
 fn refusal(kind: &Type, given: &Given, form: Form) -> Option<(u64, Outside)> {
     let (bytes, number) = (&given.bytes[..], given.record.numbers[0]);
     let formed = &given.record.numbers[..kind.formed()];
-    let longest = match kind.slice {
-        _ if formed.iter().any(|&number| form.too_wide(number)) => {
-            return Some((WIDE_ADDRESS, Outside::Wide));
-        }
-        Slice::Ignored => return None,
-        Slice::Name if bytes.len() <= 32 && !bytes.contains(&0) && std::str::from_utf8(bytes).is_ok() => {
-            return None;
-        }
-        Slice::Name => return Some((BAD_NAME, Outside::Name)),
-        Slice::Unknown(least) if number < least => return Some((TAKEN_TAG, Outside::Tag)),
-        Slice::List if (entries(bytes).0.len() as u64) < number => return Some((SHORT_LIST, Outside::List)),
-        _ if kind.number == types::MAP => LONGEST_MAP - kind.head(form),
-        _ => LONGEST_CONTENT - kind.head(form),
-    };
-    (bytes.len() > longest).then_some((LONG_CONTENT, Outside::Long))
+    let bad_name = || bytes.len() > 32 || bytes.contains(&0) || std::str::from_utf8(bytes).is_err();
+    match kind.slice {
+        _ if formed.iter().any(|&number| form.too_wide(number)) => Some((WIDE_ADDRESS, Outside::Wide)),
+        Slice::Name if bad_name() => Some((BAD_NAME, Outside::Name)),
+        Slice::Unknown(least) if number < least => Some((TAKEN_TAG, Outside::Tag)),
+        Slice::List if (entries(bytes).0.len() as u64) < number => Some((SHORT_LIST, Outside::List)),
+        _ => None,
+    }
+}
+
+/// Whether the original panics for the length of the content.
+fn long(kind: &Type, given: &Given, form: Form) -> bool {
+    kind.grows() && kind.number != types::MAP && kind.head(form) + given.bytes.len() > LONGEST_OF_TWO
+}
+
+/// Appends what document 02 has written of a long content. What comes before the slice is what the original emits there
+/// with a shorter one: none, or in a register list as many entries as it counts, without names.
+fn frame_long(kind: &Type, given: &Given, form: Form, out: &mut Vec<u8>) {
+    let entries = if kind.slice == Slice::List { given.record.numbers[0] as usize } else { 0 };
+    let shorter = Given { record: given.record, bytes: vec![0; 3 * entries] };
+    let mut emitted = Vec::new();
+    assert!(original(&shorter, form, &mut emitted), "the original does not take a shorter slice");
+    let content = RawRecord::new(&emitted).value().expect("a content");
+    let head = content.strip_suffix(&shorter.bytes[..]).expect("a content that ends in its slice");
+    written(out, emitted[0] & 0xfc, &[head, &given.bytes].concat());
 }
 
 /// Whether the original shows again what was given.

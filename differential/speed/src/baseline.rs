@@ -1,6 +1,6 @@
 //! The original's side of each workload, and the second baseline's, which is the same code over another library.
 
-use crate::stage::{Stage, COUNT, END, KINDS, REFUSED};
+use crate::stage::{Stage, BEFORE, COUNT, END, KINDS, REFUSED, TIMES};
 use std::hint::black_box;
 
 /// The original at its fastest: the parsed record is used where it lies, and the counts are kept in registers.
@@ -76,6 +76,20 @@ pub extern "C" fn speed_c_original(stage: &mut Stage) {
 pub extern "C" fn speed_e_std(stage: &mut Stage) {
     let names = stage.names.iter();
     stage.answer[COUNT] = names.map(|name| u64::from(std::str::from_utf8(name).is_ok())).sum();
+}
+
+/// A plain copy of the slice of a long record, to where it lies in that record.
+#[no_mangle]
+#[inline(never)]
+pub extern "C" fn speed_h_copy(stage: &mut Stage) {
+    let (_, slice) = stage.long;
+    let end = BEFORE + slice.len();
+    for _ in 0..TIMES {
+        stage.out[BEFORE..end].copy_from_slice(slice);
+        black_box(&stage.out);
+    }
+    stage.answer[END] = end as u64;
+    stage.answer[COUNT] = TIMES as u64;
 }
 
 /// A plain copy of the trace, which bounds what any walk could do.

@@ -11,11 +11,12 @@ mod tasks;
 mod trace;
 
 use compare::form::{Form, FORMS};
+use compare::random::Random;
 use dynamic_trace::TraceBuffer;
 use names::{Names, SETS};
 use pool::{gather, tell, Races, PROCESSES};
 use race::{race, race_forms, ROUNDS};
-use stage::{InForm, Input, Stage};
+use stage::{InForm, Input, Stage, TIMES};
 use std::process::ExitCode;
 use tasks::{Task, Workload, IN_FORMS, OURS, WALKS, WORKLOADS};
 use trace::{calls, cut, in_form, narrow, originals, written, Plan};
@@ -30,10 +31,12 @@ struct Amount {
     trace: usize,
     records: usize,
     names: usize,
+    /// The bytes of a long record.
+    slice: usize,
 }
 
-const TIMED: Amount = Amount { trace: 64 * MIB, records: 1_000_000, names: 100_000 };
-const COUNTED: Amount = Amount { trace: MIB, records: 20_000, names: 2_000 };
+const TIMED: Amount = Amount { trace: 64 * MIB, records: 1_000_000, names: 100_000, slice: 16 * MIB };
+const COUNTED: Amount = Amount { trace: MIB, records: 20_000, names: 2_000, slice: 0 };
 
 fn main() -> ExitCode {
     let words: Vec<String> = std::env::args().skip(1).collect();
@@ -75,7 +78,9 @@ fn staged<T>(amount: Amount, work: impl FnOnce(&mut Stage) -> T) -> T {
         let (trace, written) = (&traces[form as usize], &all_written[form as usize]);
         InForm { form, trace, given: &narrow, list: plan.list(&narrow_calls), written }
     });
-    work(&mut Stage::new(first, &records, forms, &names))
+    let mut slice = Vec::new();
+    Random::default().bytes(amount.slice, &mut slice);
+    work(&mut Stage::new(first, &records, forms, &names, &slice))
 }
 
 /// What one process does: all races.
@@ -116,6 +121,7 @@ fn timed() -> usize {
     println!("The trace: {} records, {} bytes.", trace.units, trace.bytes);
     println!("Written: {} records, {} bytes.", written.units, written.bytes);
     println!("Names: {} of each kind.", TIMED.names);
+    println!("A long record: {} bytes, written {TIMES} times in a round.", TIMED.slice);
     println!("In a round every side runs once; the first of a process warms, and is not counted.");
     println!("A time is the median of {PROCESSES} processes of {ROUNDS} rounds each, or more.");
     println!("It is for one record or name. MB: a million bytes.");
@@ -153,7 +159,7 @@ fn list() {
             println!("{} {} {}", workload.name, form.name(), workload.ours.symbol);
         }
     }
-    for workload in &WORKLOADS {
+    for workload in Workload::counted() {
         let own = |task: &&Task| task.side != OURS || std::ptr::eq(*task, workload.ours);
         for task in workload.tasks().into_iter().filter(own) {
             println!("{} {} {}", workload.name, task.side, task.symbol);

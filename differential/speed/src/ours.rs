@@ -1,6 +1,6 @@
 //! The proved codec's side of each workload, by the C interface of include/trace.h.
 
-use crate::stage::{Stage, Tally, COUNT, END, KINDS};
+use crate::stage::{Stage, Tally, COUNT, END, KINDS, TIMES};
 use compare::answer::{All, Call, FlatRecord, Position, Reading, REFUSED_AT, SHOWN};
 use std::hint::black_box;
 
@@ -116,6 +116,21 @@ pub extern "C" fn speed_g_ours(stage: &mut Stage) {
     };
     stage.answer[END] = position.at;
     stage.answer[COUNT] = all.records;
+}
+
+#[no_mangle]
+#[inline(never)]
+pub extern "C" fn speed_h_ours(stage: &mut Stage) {
+    let (out, room, (record, slice)) = (stage.out.as_mut_ptr(), stage.out.len(), stage.long);
+    let (mut position, mut accepted) = (stage.form.at(0), 0);
+    for _ in 0..TIMES {
+        position.at = 0;
+        let refused =
+            unsafe { aglimtaq_write(out, room, &mut position, &record, slice.as_ptr(), slice.len()) };
+        accepted += u64::from(refused == 0);
+    }
+    stage.answer[END] = position.at;
+    stage.answer[COUNT] = accepted;
 }
 
 /// One call for the whole trace. What it counts lies where `Tally` has it.

@@ -1,7 +1,7 @@
 //! Times tasks side by side: in each round each of them, one after the other, on the same input.
 
-use crate::stage::{Input, Stage, Tally, COUNT, END, KINDS};
-use crate::tasks::Task;
+use crate::stage::{Input, Stage, Tally, BEFORE, COUNT, END, KINDS};
+use crate::tasks::{Task, OURS};
 use compare::form::FORMS;
 use std::time::{Duration, Instant};
 
@@ -11,7 +11,10 @@ const SPENT: Duration = Duration::from_millis(100);
 
 /// Of each task the times of all rounds, in nanoseconds.
 pub fn race(stage: &mut Stage, tasks: &[&Task], input: Input) -> Vec<Vec<u64>> {
-    agree(stage, tasks, input);
+    match input {
+        Input::Long(_) => agree_on_long(stage, tasks, input),
+        _ => agree(stage, tasks, input),
+    }
     let mut rounds = vec![Vec::new(); tasks.len()];
     let begin = Instant::now();
     while rounds[0].len() < ROUNDS || begin.elapsed() < SPENT {
@@ -65,6 +68,20 @@ fn agree(stage: &mut Stage, tasks: &[&Task], input: Input) {
             let first = written.get_or_insert_with(|| stage.written(task).to_vec());
             assert!(stage.written(task) == first, "{} writes something else", task.symbol);
         }
+    }
+}
+
+/// The first round of a long record. Ours must write the frame that documents 01 and 02 have, and the copy its slice.
+fn agree_on_long(stage: &mut Stage, tasks: &[&Task], input: Input) {
+    let (size, frame) = (stage.size(input), stage.long_frame());
+    for task in tasks {
+        stage.wipe(input);
+        once(stage, task);
+        let copied = BEFORE..BEFORE + stage.long.1.len();
+        let place = if task.side == OURS { 0..frame.len() } else { copied };
+        assert_eq!(stage.answer[END], place.end as u64, "{} ends elsewhere", task.symbol);
+        assert_eq!(stage.answer[COUNT], size.units, "{} writes another number", task.symbol);
+        assert!(stage.out[place.clone()] == frame[place], "{} writes something else", task.symbol);
     }
 }
 

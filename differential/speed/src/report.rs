@@ -2,7 +2,7 @@
 
 use crate::pool::{Race, Times};
 use crate::stage::Size;
-use crate::tasks::{Task, Workload, IN_FORMS, MOST_IN_FORMS, OURS, WALKS, WORKLOADS};
+use crate::tasks::{Task, Workload, IN_FORMS, MOST_IN_FORMS, OURS, WALKS};
 use compare::form::FORMS;
 use std::collections::HashMap;
 
@@ -137,7 +137,7 @@ fn counted_in_forms(counts: &Counts) {
 fn counted_beside(counts: &Counts) {
     println!("\nInstructions for each record or name, counted by callgrind on a smaller input:");
     head(&["workload", "ours", "against", "theirs", "ratio"]);
-    for workload in &WORKLOADS {
+    for workload in Workload::counted() {
         let ours = counts[&(workload.name, OURS)];
         for (task, _) in workload.others {
             let name = if task.side == OURS { task.workload } else { workload.name };

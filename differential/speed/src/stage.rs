@@ -1,8 +1,10 @@
 //! What the tasks work on: inputs and outputs, made and touched before any task is timed.
 
 use crate::tasks::{Task, OURS};
+use crate::trace::MAP;
 use compare::answer::{Call, FlatRecord};
 use compare::form::{Form, FORMS};
+use compare::frame;
 use dynamic_trace::record::Record;
 use dynamic_trace::TraceBuffer;
 
@@ -39,7 +41,17 @@ pub enum Input {
     Records,
     /// One of the sets of names.
     Names(usize),
+    /// A long record, by its type.
+    Long(u64),
 }
+
+/// How often a long record is written in a round: each time in the same place.
+pub const TIMES: usize = 8;
+
+/// How many of its bytes come before its slice, which are the first byte, the length and the address; and after it.
+pub const BEFORE: usize = 1 + 4 + 8;
+const AFTER: usize = 5;
+const ADDRESS: u64 = 0x1234_5678_9abc;
 
 /// How many records or names, and how many bytes.
 #[derive(Clone, Copy)]
@@ -60,7 +72,9 @@ pub struct Stage<'a> {
     /// The sets of names, and the one that is in use.
     pub sets: &'a [Vec<&'a [u8]>],
     pub names: &'a [&'a [u8]],
-    /// Ours writes here, and the copy.
+    /// A long record.
+    pub long: Given<'a>,
+    /// Ours writes here, and the copies.
     pub out: Vec<u8>,
     /// The original appends here.
     pub emitted: Vec<u8>,
@@ -76,13 +90,15 @@ impl<'a> Stage<'a> {
         records: &'a [Record<'a>],
         forms: [InForm<'a>; FORMS.len()],
         sets: &'a [Vec<&'a [u8]>],
+        slice: &'a [u8],
     ) -> Self {
         let InForm { form, trace, given, list, written } = first;
         let room = written.len();
-        let (out, mut emitted) = (vec![1; room.max(trace.len())], vec![1; room]);
+        let most = room.max(trace.len()).max(BEFORE + slice.len() + AFTER);
+        let (out, mut emitted) = (vec![1; most], vec![1; room]);
         emitted.clear();
-        let (names, answer) = (&[][..], [0; 75]);
-        Stage { form, trace, given, list, records, forms, sets, names, out, emitted, room, answer }
+        let (names, long, answer) = (&[][..], (FlatRecord::default(), slice), [0; 75]);
+        Stage { form, trace, given, list, records, forms, sets, names, long, out, emitted, room, answer }
     }
 
     /// From here on ours takes the trace and the records of a form.
@@ -93,17 +109,28 @@ impl<'a> Stage<'a> {
     }
 
     pub fn choose(&mut self, input: Input) {
-        if let Input::Names(set) = input {
-            self.names = &self.sets[set];
+        match input {
+            Input::Names(set) => self.names = &self.sets[set],
+            Input::Long(record_type) => self.long.0 = FlatRecord { record_type, numbers: [ADDRESS, 0, 0] },
+            Input::Trace | Input::Records => {}
         }
     }
 
     /// Takes away what was written of an input's records, so that the next task must write them.
     pub fn wipe(&mut self, input: Input) {
-        if input == Input::Records {
+        if matches!(input, Input::Records | Input::Long(_)) {
             self.out.fill(0);
             self.emitted.clear();
         }
+    }
+
+    /// The bytes of the long record, by documents 01 (Map) and 02 (M-101).
+    pub fn long_frame(&self) -> Vec<u8> {
+        let (record, slice) = self.long;
+        let kind = if record.record_type == MAP { frame::MAP } else { frame::MEM_WRITE };
+        let mut out = Vec::new();
+        frame::written(&mut out, kind, &[&ADDRESS.to_le_bytes(), slice].concat());
+        out
     }
 
     /// What a task has written.
@@ -119,6 +146,7 @@ impl<'a> Stage<'a> {
         let (units, bytes) = match input {
             Input::Names(_) => (self.names.len(), self.names.iter().map(|name| name.len()).sum()),
             Input::Records => (self.records.len(), self.room),
+            Input::Long(_) => (TIMES, TIMES * self.long.1.len()),
             Input::Trace => (TraceBuffer::new(self.trace).iter().count(), self.trace.len()),
         };
         Size { units: units as u64, bytes: bytes as u64 }

@@ -4,6 +4,7 @@ use crate::baseline::*;
 use crate::names::*;
 use crate::ours::*;
 use crate::stage::{Input, Stage};
+use crate::trace::{MAP, MEM_WRITE};
 
 /// The work of one side in one workload. It is one function, so that its instructions can be counted by its name.
 pub struct Task {
@@ -49,6 +50,8 @@ tasks! {
     F_LAZY: "f", "lazy", speed_f_lazy;
     F_BACK_OURS: "f_back", OURS, speed_f_back_ours;
     G_OURS: "g", OURS, speed_g_ours;
+    H_OURS: "h", OURS, speed_h_ours;
+    H_COPY: "h", "memcpy", speed_h_copy;
     COPY: "copy", "plain", speed_copy;
 }
 
@@ -64,7 +67,11 @@ const fn on_records(title: &'static str, ours: &'static Task, others: Others) ->
     Workload { name: ours.workload, title, input: Input::Records, ours, others }
 }
 
-pub static WORKLOADS: [Workload; 12] = [
+const fn on_long(name: &'static str, title: &'static str, record_type: u64, others: Others) -> Workload {
+    Workload { name, title, input: Input::Long(record_type), ours: &H_OURS, others }
+}
+
+pub static WORKLOADS: [Workload; 14] = [
     on_trace("frames only", &A_OURS, &[(&A_ORIGINAL, Some(0.5))]),
     on_trace("every record parsed", &B_OURS, &[(&B_ORIGINAL, Some(0.35)), (&B_LAZY, Some(1.0))]),
     on_records("records written", &C_OURS, &[(&C_ORIGINAL, Some(0.7))]),
@@ -77,6 +84,8 @@ pub static WORKLOADS: [Workload; 12] = [
     on_trace("one call for each record", &F_OURS, &[(&F_ORIGINAL, Some(1.0)), (&F_LAZY, None)]),
     on_trace("one call for each record, backwards", &F_BACK_OURS, &[(&F_OURS, None)]),
     on_records("records written, one call for all", &G_OURS, &[(&C_ORIGINAL, None), (&C_OURS, None)]),
+    on_long("h", "MemWrite of 16 MiB", MEM_WRITE, &[(&H_COPY, Some(1.25))]),
+    on_long("h_map", "Map of 16 MiB", MAP, &[(&H_COPY, None)]),
 ];
 
 /// What ours does in every form, and how much of its time in the first form it may take in another.
@@ -90,6 +99,11 @@ pub static WALKS: [&Task; 10] =
 impl Workload {
     pub fn find(name: &str) -> &'static Workload {
         WORKLOADS.iter().find(|workload| workload.name == name).expect("a workload")
+    }
+
+    /// Those whose instructions are counted: not where a plain copy is one instruction, over and over.
+    pub fn counted() -> impl Iterator<Item = &'static Workload> {
+        WORKLOADS.iter().filter(|workload| !matches!(workload.input, Input::Long(_)))
     }
 
     /// Ours first.

@@ -13,7 +13,7 @@ use dynamic_trace::TraceBuffer;
 
 const MAGIC: u64 = 1;
 const REGISTER_NAME_MAP: u64 = 3;
-const MAP: u64 = 5;
+pub const MAP: u64 = 5;
 const UNMAP: u64 = 6;
 const INSTRUCTION: u64 = 7;
 const PC: u64 = 8;
@@ -27,7 +27,7 @@ const REG_READ: u64 = 23;
 const REG_WRITE: u64 = 24;
 const REG_WRITE_NATIVE: u64 = 25;
 const MEM_READ: u64 = 26;
-const MEM_WRITE: u64 = 27;
+pub const MEM_WRITE: u64 = 27;
 /// A MemWrite that takes two length bytes: no type of the format, but one of the mix.
 const LONG_WRITE: u64 = 100;
 

@@ -3,25 +3,39 @@
 use super::Use;
 use crate::content::entry;
 use crate::form::Form;
-use crate::frame::{frame, written, Trailer, FILE_META, TRAILERS, WIDTHS};
+use crate::frame::{frame, written, Trailer, FILE_META, LONGEST_OF_TWO, TRAILERS, WIDTHS};
 use crate::random::Random;
 
 type UseList<'a> = &'a mut dyn FnMut(u8, &[u8]);
 
-const LONGEST_LIST: usize = 65_528;
+/// The longest list that the original emits.
+const LONGEST_EMITTED: usize = LONGEST_OF_TWO - 2;
 
 pub fn lists(count: usize, _: Form, use_input: Use) {
     fixed(&mut |count, list| {
-        if list.len() <= LONGEST_LIST {
-            let mut bytes = Vec::new();
-            written(&mut bytes, FILE_META, &[&[0, count], list].concat());
-            use_input(&bytes);
+        if list.len() <= LONGEST_EMITTED {
+            framed(count, list, use_input);
         }
     });
     random_lists(count, use_input);
 }
 
-/// Lists with a stated count, right or wrong; some are longer than any that is written.
+/// Lists that are longer than those that the original emits.
+pub fn long_lists(use_input: Use) {
+    long(&mut |count, list| {
+        if list.len() > LONGEST_EMITTED {
+            framed(count, list, use_input);
+        }
+    });
+}
+
+fn framed(count: u8, list: &[u8], use_input: Use) {
+    let mut bytes = Vec::new();
+    written(&mut bytes, FILE_META, &[&[0, count], list].concat());
+    use_input(&bytes);
+}
+
+/// Lists with a stated count, right or wrong; some are longer than any that the original emits.
 pub fn fixed(use_list: UseList) {
     regular(use_list);
     small(use_list);

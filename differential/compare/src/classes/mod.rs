@@ -14,7 +14,7 @@ use crate::frame::{self, KINDS};
 use kinds::{kinds, lengths, magic, tag_rows, tags};
 use lists::lists;
 use names::names;
-use sizes::sizes;
+use sizes::{long, sizes};
 use traces::{damaged, emitted, other_forms, random_strings, written};
 use trailers::trailers;
 
@@ -62,7 +62,7 @@ const fn class<T: ?Sized>(
     Class { name, make, bounded, long, kept }
 }
 
-pub const CLASSES: [Class; 17] = [
+pub const CLASSES: [Class; 18] = [
     class("examples", examples, [1, 1], [99, 9]),
     class("up to three bytes", up_to_three, [1, 1], [300, 0]),
     class("four bytes", four, [1, 2], [100, 0]),
@@ -74,6 +74,7 @@ pub const CLASSES: [Class; 17] = [
     class("names", names, [1, 20], [300, 0]),
     class("register lists", lists, [300_000, 10_000_000], [300, 0]),
     class("large contents", sizes, [1, 2], [60, 20]),
+    class("long contents", long, [1, 1], [0, 0]),
     class("trailers", trailers, [1, 10], [0, 0]),
     class("written traces", written, [500_000, 10_000_000], [250, 60]),
     class("emitted traces", emitted, [200_000, 5_000_000], [250, 60]),

@@ -1,11 +1,13 @@
-//! Contents about the limits of the length's widths, and longer than a writer takes.
+//! Contents about the limits of the length's widths, and longer ones.
 
+use super::lists::long_lists;
 use super::Use;
 use crate::form::Form;
 use crate::frame::*;
 
 const SIZES: [usize; 12] = [0, 1, 251, 252, 253, 254, 255, 256, 257, 65_529, 65_530, 65_531];
 const LARGER: [usize; 8] = [65_526, 65_534, 65_535, 65_536, 65_537, 70_000, 131_072, 1_000_000];
+const LONG: [usize; 3] = [65_535, 65_536, 70_000];
 
 pub fn sizes(fine: usize, _: Form, use_input: Use) {
     for kind in KINDS.into_iter().chain([0x08]) {
@@ -21,6 +23,16 @@ pub fn sizes(fine: usize, _: Form, use_input: Use) {
             }
         }
     }
+}
+
+/// Every kind with contents that the original emits in a Map alone; and long register lists.
+pub fn long(_: usize, _: Form, use_input: Use) {
+    for kind in KINDS {
+        for size in LONG {
+            fills(kind, size, use_input);
+        }
+    }
+    long_lists(use_input);
 }
 
 /// One byte over and over, after eight others that give Meta every kind of tag.

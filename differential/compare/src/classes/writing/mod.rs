@@ -11,14 +11,14 @@ use crate::form::Form;
 use crate::given::Given;
 use crate::random::Random;
 use crate::types::Type;
-use contents::{contents, sizes, tags};
+use contents::{contents, long, sizes, tags};
 use names::{names, texts};
 use numbers::{numbers, wrong};
 use rows::rows;
 
 pub type Give<'a> = Use<'a, [Given]>;
 
-pub const CLASSES: [Class<[Given]>; 10] = [
+pub const CLASSES: [Class<[Given]>; 11] = [
     class("write examples", examples, [1, 1], [12, 4]),
     class("write tags", tags, [4, 40], [20, 0]),
     class("write names", names, [1, 1], [40, 0]),
@@ -29,6 +29,7 @@ pub const CLASSES: [Class<[Given]>; 10] = [
     class("write lists", lists, [50_000, 500_000], [40, 0]),
     class("write no record", wrong, [1, 20], [0, 0]),
     class("write rows", rows, [150_000, 1_500_000], [50, 20]),
+    class("write long", long, [1, 5], [0, 0]),
 ];
 
 /// Document 01's examples.

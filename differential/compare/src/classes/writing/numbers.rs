@@ -63,7 +63,7 @@ pub fn wrong(fine: usize, form: Form, give: Give) {
     }
 }
 
-/// None; some; too many for a name; too many for any type but Map.
+/// None; some; too many for a name; too many for the original in any type but Map.
 fn bytes(random: &mut Random, use_bytes: super::Use) {
     for length in [0, 5, 33, 65_531] {
         let mut bytes = vec![0; length];
