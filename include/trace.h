@@ -198,8 +198,8 @@ struct aglimtaq_record {
 };
 
 /* Writes a record at the position in `out`; the first call writes at 0. The record's name, register list or
- * contents are the `length` bytes at `bytes`; a type that has none of these ignores them. A record's content is its
- * numbers and these bytes, 4,294,967,290 bytes at most.
+ * contents are the `length` bytes at `bytes`; a type that has none of these ignores them. A record's content, which
+ * is its tag, its numbers and these bytes, has 4,294,967,290 bytes at most.
  *
  * Returns 0, and the position becomes that after the record, where the next call writes. Or returns why the record
  * is refused; then the position is kept, and no byte of `out` is altered. Of several reasons the first in this order
