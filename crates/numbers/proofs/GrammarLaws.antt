@@ -1,16 +1,15 @@
 -- `utf8` holds exactly of the octets of RFC 3629's grammar. Assumes nothing.
 use mathlib.Core.Path.{_≡_, refl, sym, ap, subst, _∙_}
-use mathlib.Core.Bool.{Bool, true, false, cond, _&&_, and-false}
+use mathlib.Core.Bool.{Bool, true, false, cond}
 use mathlib.Core.List.{List, [], _∷_, _++_, List·Memᴰ, List·Memᴰ·head, List·Memᴰ·tail}
-use Prim.Native.Nat.{ℕ, suc, _≤_, _<_}
+use Prim.Native.Nat.{ℕ, suc, _≤_}
 use native.Mathlib.Omega.{arith}
-use borrow.Author.Tests.{lt-leb}
 use mir.Facts.{and-yes, yes-and}
-use lib.Dec.{T, leb, ltb, leb→le, ltb→lt}
-use lib.Ieee.Bits.{is-true}
+use lib.Dec.{T, leb, leb→le}
 use Rattle.numbers.specs.Grammar.Lies.{all, next}
 use Rattle.numbers.specs.Grammar.Octets.{empty, char}
 use Rattle.numbers.specs.Grammar.{Lies, Octets}
+use Rattle.numbers.proofs.LeadLaws.{holds, leads}
 use Rattle.numbers.specs.Text.{Range, Line, within, nothing, lines, classIn, asksIn, classOf, asks, utf8From, utf8}
 
 -- ---- text is octets
@@ -92,40 +91,26 @@ unfolding utf8From
 goes-on t all h = h
 goes-on t (next {r = r} {rs = rs} {b = b} {s = s} w l) h = yes-and (within r b) (utf8From rs (s ++ t)) w (goes-on t l h)
 
--- each lead range lies above those of the lines before
-above : Range → List Line → Bool
-above r [] = true
-above r (l ∷ ls) = ltb (r .high) (l .lead .low) && above r ls
+-- a line that holds b as lead byte, by its index
+record Found (ls : List Line) (l : Line) (b : ℕ) : Type 0 where
+  index : ℕ
+  there : T (holds ls index b)
+  asked : asksIn ls index ≡ l .behind
 
-ascending : List Line → Bool
-unfolding above
-ascending [] = true
-ascending (l ∷ ls) = above (l .lead) ls && ascending ls
-
-below : (r : Range) (l : Line) {ls : List Line} → List·Memᴰ l ls → T (above r ls) → r .high < l .lead .low
-unfolding above
-below r l (List·Memᴰ·head {x = x} {xs = xs} e) h =
-    subst (λ (m : Line). r .high < m .lead .low) (sym e) (ltb→lt _ _ (and-yes (ltb (r .high) (x .lead .low)) (above r xs) h .0))
-below r l (List·Memᴰ·tail {x = x} {xs = xs} m) h = below r l m (and-yes (ltb (r .high) (x .lead .low)) (above r xs) h .1)
+found : (b : ℕ) (l : Line) {ls : List Line} → List·Memᴰ l ls → T (within (l .lead) b) → Found ls l b
+unfolding asksIn
+found b l (List·Memᴰ·head {x = x} e) w =
+    record { index = 0; there = subst (λ (m : Line). T (within (m .lead) b)) e w; asked = ap (λ (m : Line). m .behind) (sym e) }
+found b l (List·Memᴰ·tail m) w = let p = found b l m w in record { index = suc (p .index); there = p .there; asked = p .asked }
 
 -- what the class of b asks for is what follows the lead range that holds b
-behind-is : (b : ℕ) (l : Line) {ls : List Line} → List·Memᴰ l ls → T (ascending ls) → T (within (l .lead) b)
-    → asksIn ls (classIn ls b) ≡ l .behind
-unfolding asksIn classIn ascending
-behind-is b l (List·Memᴰ·head {x = x} {xs = xs} e) h w =
-    ap (λ (t : Bool). asksIn (x ∷ xs) (cond t 0 (suc (classIn xs b)))) (ap (λ (m : Line). within (m .lead) b) (sym e) ∙ is-true (within (l .lead) b) w)
-    ∙ ap (λ (m : Line). m .behind) (sym e)
-behind-is b l (List·Memᴰ·tail {x = x} {xs = xs} m) h w =
-    let p = and-yes (above (x .lead) xs) (ascending xs) h in
-    let under : x .lead .high < l .lead .low = below (x .lead) l m (p .0) in
-    let over : l .lead .low ≤ b = leb→le _ _ (and-yes (leb (l .lead .low) b) (leb b (l .lead .high)) w .0) in
-    let past : leb b (x .lead .high) ≡ false = lt-leb b (x .lead .high) (omega arith) in
-    ap (λ (t : Bool). asksIn (x ∷ xs) (cond t 0 (suc (classIn xs b)))) (ap (λ (t : Bool). leb (x .lead .low) b && t) past ∙ and-false (leb (x .lead .low) b))
-    ∙ behind-is b l m (p .1) w
+behind-is : (b : ℕ) (l : Line) → List·Memᴰ l lines → T (within (l .lead) b) → asks (classOf b) ≡ l .behind
+unfolding asks
+behind-is b l m w = let p = found b l m w in ap asks (leads (p .index) b (p .there)) ∙ p .asked
 
 pub octets-utf8 : {s : List ℕ} → Octets s → T (utf8 s)
-unfolding utf8 utf8From asks classOf ascending
+unfolding utf8 utf8From
 octets-utf8 empty = tt
 octets-utf8 (char {t = t} l m (next {b = b} {s = c} w h) o e) =
     subst (λ (r : List ℕ). T (utf8From [] r)) (sym e)
-    (subst (λ (rs : List Range). T (utf8From rs (c ++ t))) (sym (behind-is b l m tt w)) (goes-on t h (octets-utf8 o)))
+    (subst (λ (rs : List Range). T (utf8From rs (c ++ t))) (sym (behind-is b l m w)) (goes-on t h (octets-utf8 o)))

@@ -1,9 +1,11 @@
 pub mod ListLaws
 pub mod SpliceLaws
 pub mod NumberLaws
-pub mod TableLaws
+pub mod BelowLaws
 pub mod TextLaws
 pub mod GrammarLaws
 pub mod Rules
 pub mod HighestLaws
+pub mod LeadLaws
+pub mod BlockLaws
 pub mod Examples

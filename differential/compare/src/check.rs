@@ -22,12 +22,23 @@ pub fn check(bytes: &[u8], tally: &mut Tally) {
     if tally.form() == Form::Le64 {
         tally.inside("one_record", 0, &source::one_record(bytes), &ours::one_record(bytes));
         tally.hold("value", 0, &source::value(bytes), &ours::value(bytes));
-        let text = u64::from(std::str::from_utf8(bytes).is_ok());
-        tally.inside("is_utf8", 0, &text, &ours::is_utf8(bytes));
+        is_utf8(bytes, tally);
     }
     parse(bytes, tally);
     beyond(bytes, tally);
     tally.end(bytes);
+}
+
+/// The same, for bytes that are checked for text alone.
+pub fn text(bytes: &[u8], tally: &mut Tally) {
+    tally.begin(bytes);
+    is_utf8(bytes, tally);
+    tally.end(bytes);
+}
+
+fn is_utf8(bytes: &[u8], tally: &mut Tally) {
+    let text = u64::from(std::str::from_utf8(bytes).is_ok());
+    tally.inside("is_utf8", 0, &text, &ours::is_utf8(bytes));
 }
 
 /// From record to record, each call at the position that ours handed back, up to the first difference; half the time

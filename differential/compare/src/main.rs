@@ -8,8 +8,8 @@ mod ours;
 mod tally;
 mod whole;
 
-use compare::classes::{writing, Class, Run, CLASSES};
-use compare::form::FORMS;
+use compare::classes::{writing, Class, Run, CLASSES, TEXT};
+use compare::form::{Form, FORMS};
 use std::path::Path;
 use std::process::ExitCode;
 use tally::Tally;
@@ -31,6 +31,10 @@ fn main() -> ExitCode {
     for class in writing::CLASSES {
         in_each_form(&class, run, check_write::check, &mut written);
     }
+    let mut texts = Tally::default();
+    TEXT.make(run, Form::Le64, &mut |bytes| check::text(bytes, &mut texts));
+    println!("{}", texts.line(TEXT.name));
+    total.add(&texts);
     for program in programs.iter().map(Path::new) {
         let name = program.file_name().and_then(|name| name.to_str()).unwrap_or("listing");
         if program.exists() {

@@ -14,7 +14,8 @@ pub const ASCII_ANYWHERE: usize = 1;
 pub const ASCII_SHORTER: usize = 2;
 pub const FEW_OTHERS: usize = 3;
 pub const MOSTLY_OTHERS: usize = 4;
-pub const SETS: usize = 5;
+pub const FEW_SHORTER: usize = 5;
+pub const SETS: usize = 6;
 
 /// Names one after the other, and where each starts and ends.
 pub struct Names {
@@ -31,7 +32,11 @@ impl Names {
             // remainder 0.
             bytes.extend((set == ASCII_ANYWHERE).then_some(b' '));
             let start = bytes.len();
-            let length = if set == ASCII_SHORTER { 8 + random.below(24) } else { LENGTH };
+            let length = match set {
+                ASCII_SHORTER => 8 + random.below(24),
+                FEW_SHORTER => 8 + random.below(11),
+                _ => LENGTH,
+            };
             let others = others(&mut random, set);
             bytes.extend(name(&mut random, length, &others));
             places.push((start, bytes.len()));
@@ -46,8 +51,8 @@ impl Names {
 
 fn others(random: &mut Random, set: usize) -> Vec<char> {
     match set {
-        FEW_OTHERS if random.once_in(2) => vec![random.pick(&TWO_BYTES)],
-        FEW_OTHERS => vec![random.pick(&TWO_BYTES), random.pick(&THREE_BYTES)],
+        FEW_OTHERS | FEW_SHORTER if random.once_in(2) => vec![random.pick(&TWO_BYTES)],
+        FEW_OTHERS | FEW_SHORTER => vec![random.pick(&TWO_BYTES), random.pick(&THREE_BYTES)],
         MOSTLY_OTHERS => (0..10).map(|_| random.pick(&THREE_BYTES)).collect(),
         _ => Vec::new(),
     }

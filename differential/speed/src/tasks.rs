@@ -71,7 +71,7 @@ const fn on_long(name: &'static str, title: &'static str, record_type: u64, othe
     Workload { name, title, input: Input::Long(record_type), ours: &H_OURS, others }
 }
 
-pub static WORKLOADS: [Workload; 14] = [
+pub static WORKLOADS: [Workload; 15] = [
     on_trace("frames only", &A_OURS, &[(&A_ORIGINAL, Some(0.5))]),
     on_trace("every record parsed", &B_OURS, &[(&B_ORIGINAL, Some(0.35)), (&B_LAZY, Some(1.0))]),
     on_records("records written", &C_OURS, &[(&C_ORIGINAL, Some(0.7))]),
@@ -79,8 +79,9 @@ pub static WORKLOADS: [Workload; 14] = [
     on_names("e", "names, ASCII, 32 bytes", ASCII, &[(&E_STD, Some(1.5))]),
     on_names("e_any", "the same, at any address", ASCII_ANYWHERE, &[(&E_STD, None)]),
     on_names("e_short", "names, ASCII, 8 to 31 bytes", ASCII_SHORTER, &[(&E_STD, None)]),
-    on_names("e_few", "names, 1 or 2 other characters", FEW_OTHERS, &[(&E_STD, None)]),
-    on_names("e_most", "names, 10 three-byte characters", MOSTLY_OTHERS, &[(&E_STD, None)]),
+    on_names("e_few", "names, 1 or 2 other characters", FEW_OTHERS, &[(&E_STD, Some(1.0))]),
+    on_names("e_most", "names, 10 three-byte characters", MOSTLY_OTHERS, &[(&E_STD, Some(1.0))]),
+    on_names("e_small", "the same as e_few, 8 to 18 bytes", FEW_SHORTER, &[(&E_STD, None)]),
     on_trace("one call for each record", &F_OURS, &[(&F_ORIGINAL, Some(1.0)), (&F_LAZY, None)]),
     on_trace("one call for each record, backwards", &F_BACK_OURS, &[(&F_OURS, None)]),
     on_records("records written, one call for all", &G_OURS, &[(&C_ORIGINAL, None), (&C_OURS, None)]),

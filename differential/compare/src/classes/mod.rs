@@ -5,6 +5,7 @@ mod kinds;
 mod lists;
 mod names;
 mod sizes;
+mod text;
 pub mod traces;
 mod trailers;
 pub mod writing;
@@ -15,6 +16,7 @@ use kinds::{kinds, lengths, magic, tag_rows, tags};
 use lists::lists;
 use names::names;
 use sizes::{long, sizes};
+use text::text;
 use traces::{damaged, emitted, other_forms, random_strings, written};
 use trailers::trailers;
 
@@ -61,6 +63,9 @@ const fn class<T: ?Sized>(
 ) -> Class<T> {
     Class { name, make, bounded, long, kept }
 }
+
+/// Bytes that are checked for text alone. No form has a part in that.
+pub const TEXT: Class = class("text", text, [500_000, 20_000_000], [0, 0]);
 
 pub const CLASSES: [Class; 18] = [
     class("examples", examples, [1, 1], [99, 9]),

@@ -1,10 +1,7 @@
--- `numbers::text::is_utf8` meets its contract. ASCII is text; the lookup table's rule is one test, computed over all its entries.
--- Assumes nothing.
-use mathlib.Core.Path.{refl, sym}
+-- `numbers::text::is_utf8` meets its contract: ASCII is text. Assumes nothing.
+use mathlib.Core.Path.{sym}
 use native.Mathlib.Omega.{arith}
 use borrow.Author.Needs.{needs}
-use Rattle.numbers.specs.Text.{classOf}
-use Rattle.numbers.proofs.TableLaws.{table-rule}
 use Rattle.numbers.proofs.HighestLaws.{highest-ascii}
 use Rattle.numbers.proofs.text.is_utf8.Statement.{statement}
 use Rattle.numbers.proofs.text.is_utf8.Tie as tie
@@ -15,12 +12,11 @@ highest-requires c κs = search needs
 returns : tie.Need-returns
 returns c = sym (highest-ascii (c .before .before .before .args .s .now) (omega (arith, c .before .highest .ensures)))
 
-utf8-in-requires : tie.Need-utf8-in-requires
-unfolding classOf
-utf8-in-requires c κs = table-rule tt refl
+by-blocks-requires : tie.Need-by-blocks-requires
+by-blocks-requires c κs = search needs
 
 returns-2 : tie.Need-returns-2
 returns-2 c = search needs
 
 pub is-utf8-spec : {M : Type 1} → statement M
-is-utf8-spec = tie.close (tie.spec highest-requires returns utf8-in-requires returns-2)
+is-utf8-spec = tie.close (tie.spec highest-requires returns by-blocks-requires returns-2)
