@@ -1,5 +1,5 @@
 // Which bytes are text, in blocks of sixteen: each byte is held against the three before it, which say whether it leads
-// a character or goes on with one. No jump depends on the bytes, so that the compiler takes a block at a step.
+// a character or goes on with one. No jump of a block depends on its bytes, so that the compiler makes vectors of it.
 ghost use mathlib.Core.Path.{_≡_};
 ghost use mathlib.Core.Bool.{_&&_};
 ghost use Prim.Native.Nat.{_+_, _≤_};
