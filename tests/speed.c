@@ -21,6 +21,9 @@ static uint8_t slices[RECORDS * LONGEST];
 static size_t taken;
 static uint8_t one_by_one[ROOM];
 
+/* Names that are not all ASCII: each has one character of two bytes, at an offset of its own. */
+static uint8_t others[31][32];
+
 /* Numbers that look random and are the same in every run. */
 static uint32_t next_number(void)
 {
@@ -93,6 +96,14 @@ __attribute__((noinline)) int work_e(void)
     return names == RECORDS;
 }
 
+__attribute__((noinline)) int work_e_few(void)
+{
+    int names = 0;
+    for (int i = 0; i < RECORDS; i++)
+        names += (int)aglimtaq_is_utf8(others[i % 31], 32);
+    return names == RECORDS;
+}
+
 __attribute__((noinline)) int work_f(void)
 {
     struct aglimtaq_position position = {0, form};
@@ -130,11 +141,16 @@ int main(int argc, char **argv)
     form = (uint64_t)(argv[1][0] - '0');
     for (int i = 0; i < 64; i++)
         given[i] = (uint8_t)('a' + i % 26);
+    for (int i = 0; i < 31; i++) {
+        memset(others[i], 'a', 32);
+        memcpy(others[i] + i, "\xc3\xa9", 2);
+    }
     for (int i = 0; i < RECORDS; i++) {
         make(i);
         list(i);
     }
-    if (!work_c() || !work_a() || !work_b() || !work_d() || !work_e() || !work_f() || !same_by_list()) {
+    if (!work_c() || !work_a() || !work_b() || !work_d() || !work_e() || !work_e_few() || !work_f() ||
+        !same_by_list()) {
         fprintf(stderr, "the records are not all written, read or counted\n");
         return 1;
     }
