@@ -3,10 +3,10 @@ use mathlib.Core.Path.{ap}
 use mathlib.Core.Bool.{Bool, _&&_}
 use Prim.Native.Nat.{_≤_}
 use native.Mathlib.Omega.{arith}
+use borrow.Author.Needs.{needs}
 use lib.ListN.{length, List·getD-eq-default}
 use Rattle.numbers.specs.Inner.{before, fitsAt, allFit}
 use Rattle.numbers.proofs.BlockLaws.{fits-at}
-use borrow.Author.Needs.{needs}
 use Rattle.numbers.proofs.blocks.ends.Statement.{statement}
 use Rattle.numbers.proofs.blocks.ends.Tie as tie
 

@@ -1,13 +1,19 @@
 -- `numbers::lead::class_of` meets its contract: each arm is a line of the grammar, and one law gives the class from the line.
 -- Assumes nothing.
-use mathlib.Core.Path.{sym}
+use mathlib.Core.Path.{_≡_, sym}
+use mathlib.Core.Bool.{_&&_}
+use Prim.Native.Nat.{ℕ, _≤_}
 use native.Mathlib.Omega.{arith}
 use mir.Facts.{yes-and}
-use lib.Dec.{leb, le→leb}
-use Rattle.numbers.specs.Text.{classOf}
-use Rattle.numbers.proofs.LeadLaws.{leads, between, beyond}
+use lib.Dec.{T, leb, le→leb}
+use Rattle.numbers.specs.Text.{lines, classOf}
+use Rattle.numbers.proofs.LeadLaws.{holds, leads, between, beyond}
 use Rattle.numbers.proofs.lead.class_of.Statement.{statement}
 use Rattle.numbers.proofs.lead.class_of.Tie as tie
+
+-- a byte in the lead range of a line
+ranged : (k b low high : ℕ) → (T (leb low b && leb b high) → T (holds lines k b)) → low ≤ b → b ≤ high → k ≡ classOf b
+ranged k b low high line l h = sym (leads k b (line (yes-and (leb low b) (leb b high) (le→leb low b l) (le→leb b high h))))
 
 returns : tie.Need-returns
 unfolding classOf
@@ -26,19 +32,19 @@ unfolding classOf
 returns-4 c = rw (c .match .keys4)
 
 returns-5 : tie.Need-returns-5
-returns-5 c = let b = c .before .before .args .b in sym (leads 0 b (yes-and (leb 0x00 b) (leb b 0x7f) (le→leb 0x00 b (omega arith)) (le→leb b 0x7f (omega arith))))
+returns-5 c = ranged 0 _ 0x00 0x7f (λ t. t) (omega arith) (omega arith)
 
 returns-6 : tie.Need-returns-6
-returns-6 c = let b = c .before .before .before .before .args .b in sym (leads 1 b (yes-and (leb 0xc2 b) (leb b 0xdf) (le→leb 0xc2 b (omega arith)) (le→leb b 0xdf (omega arith))))
+returns-6 c = ranged 1 _ 0xc2 0xdf (λ t. t) (omega arith) (omega arith)
 
 returns-7 : tie.Need-returns-7
-returns-7 c = let b = c .before .before .before .before .before .args .b in sym (leads 3 b (yes-and (leb 0xe1 b) (leb b 0xec) (le→leb 0xe1 b (omega arith)) (le→leb b 0xec (omega arith))))
+returns-7 c = ranged 3 _ 0xe1 0xec (λ t. t) (omega arith) (omega arith)
 
 returns-8 : tie.Need-returns-8
-returns-8 c = let b = c .before .before .before .before .before .before .args .b in sym (leads 5 b (yes-and (leb 0xee b) (leb b 0xef) (le→leb 0xee b (omega arith)) (le→leb b 0xef (omega arith))))
+returns-8 c = ranged 5 _ 0xee 0xef (λ t. t) (omega arith) (omega arith)
 
 returns-9 : tie.Need-returns-9
-returns-9 c = let b = c .before .before .before .before .before .before .before .args .b in sym (leads 7 b (yes-and (leb 0xf1 b) (leb b 0xf3) (le→leb 0xf1 b (omega arith)) (le→leb b 0xf3 (omega arith))))
+returns-9 c = ranged 7 _ 0xf1 0xf3 (λ t. t) (omega arith) (omega arith)
 
 returns-10 : tie.Need-returns-10
 returns-10 c = sym (between (c .before .before .before .args .b) (omega arith) (omega arith))
