@@ -14,7 +14,7 @@ use Rattle.numbers.proofs.copy.copy.Reads as copy-reads
 use Rattle.numbers.proofs.blocks.long.Reads as long-reads
 use Rattle.numbers.proofs.blocks.by_blocks.Kinds as kinds
 use Rattle.numbers.proofs.blocks.by_blocks.Reads as by-blocks
-use Rattle.numbers.proofs.blocks.+by_blocks.Lts-by_blocks as lts
+use Rattle.numbers.proofs.blocks.+by_blocks.Lts-by_blocks as by-blocks-lts
 use Rattle.numbers.proofs.blocks.+by_blocks.Tie.{close}
 use Rattle.numbers.proofs.blocks.+by_blocks.{statement}
 
@@ -26,7 +26,7 @@ module _ (t : ℕ) where
   abbrev at : In 1 kinds.ps
   at = and 1 kinds.ps (is 1 kinds.ps μ-by-blocks t) by-blocks.Pre
 
-  abbrev claims : lts.Claims
+  abbrev claims : by-blocks-lts.Claims
   claims = (
     copy-reads.Asked,
     copy-reads.Learnt,
@@ -36,39 +36,39 @@ module _ (t : ℕ) where
     long-reads.Learnt,
   )
 
-  slice-aggregate-copy : lts.Need-slice-aggregate-copy claims at by-blocks.Post
+  slice-aggregate-copy : by-blocks-lts.Need-slice-aggregate-copy claims at by-blocks.Post
   slice-aggregate-copy c = refl
 
-  copy-requires : lts.Need-copy-requires claims at by-blocks.Post
+  copy-requires : by-blocks-lts.Need-copy-requires claims at by-blocks.Post
   copy-requires c κs = omega arith
 
   -- what was filled up has 19 bytes
-  full : (c : lts.After-filled3 claims at by-blocks.Post) → length (c .before .before .copy .last .0) ≡ 19
+  full : (c : by-blocks-lts.After-filled3 claims at by-blocks.Post) → length (c .before .before .copy .last .0) ≡ 19
   full c =
       ap length (c .before .before .copy .ensures)
       ∙ length-splice (replicate 19 0) 0 (c .before .before .before .before .before .before .args .s .now) (omega arith)
 
-  slice-aggregate-by-blocks : lts.Need-slice-aggregate-by-blocks claims at by-blocks.Post
+  slice-aggregate-by-blocks : by-blocks-lts.Need-slice-aggregate-by-blocks claims at by-blocks.Post
   slice-aggregate-by-blocks c = sym (full c)
 
-  by-blocks-requires : lts.Need-by-blocks-requires claims at by-blocks.Post
+  by-blocks-requires : by-blocks-lts.Need-by-blocks-requires claims at by-blocks.Post
   by-blocks-requires c κs = (omega (arith, full c, c .before .before .before .before .before .before .pre .0), tt)
 
-  returns : lts.Need-returns claims at by-blocks.Post
+  returns : by-blocks-lts.Need-returns claims at by-blocks.Post
   returns c =
       let s = c .before .before .before .before .before .before .before .args .s .now in
       c .by-blocks .ensures ∙ ap utf8 (c .before .before .before .copy .ensures) ∙ filled-up s (replicate 19 0) tt (omega arith)
 
-  long-requires : lts.Need-long-requires claims at by-blocks.Post
+  long-requires : by-blocks-lts.Need-long-requires claims at by-blocks.Post
   long-requires c κs = omega arith
 
-  returns-2 : lts.Need-returns-2 claims at by-blocks.Post
+  returns-2 : by-blocks-lts.Need-returns-2 claims at by-blocks.Post
   returns-2 c = c .long .ensures
 
 pub +by-blocks-spec : {M : Type 1} → statement M
 +by-blocks-spec =
     close μ-by-blocks λ t.
-    lts.spec (claims t) (at t) by-blocks.Post
+    by-blocks-lts.spec (claims t) (at t) by-blocks.Post
     (slice-aggregate-copy t)
     (copy-requires t)
     (slice-aggregate-by-blocks t)
