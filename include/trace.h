@@ -65,6 +65,7 @@ enum aglimtaq_refusal {
     AGLIMTAQ_NAME_NOT_TEXT = 5, /* a function's name that is not UTF-8 */
     AGLIMTAQ_NO_START = 6,      /* backwards only: the trailer leads to before the first byte */
     AGLIMTAQ_UNKNOWN_KIND = 7,  /* a kind of record that this format does not have */
+    AGLIMTAQ_ENDS_DIFFER = 16,  /* backwards only: the trailer leads to where no record starts that ends at the position */
     /* The caller's mistakes. */
     AGLIMTAQ_BEYOND_END = 8,    /* the position lies beyond the end of the bytes */
     AGLIMTAQ_NO_ROOM = 9,       /* the output is too small for the record */
@@ -129,7 +130,11 @@ void aglimtaq_read_next(const uint8_t *bytes, size_t length, struct aglimtaq_pos
 
 /* The record that ends at the position. The first call reads at the end of the trace, each later one at the
  * position that the call before left, until the answer is FINISHED or REFUSED. Where a record is framed, the
- * position becomes its start; otherwise it is kept. */
+ * position becomes its start; otherwise it is kept.
+ *
+ * Every record that this call frames, shown or refused, is also there forwards: aglimtaq_read_next, at the position
+ * that it leaves, gives the same reading and leaves the position that it was called at. Where the trailer before the
+ * position leads to no such record, as on a damaged disk, the answer is REFUSED with NO_START or ENDS_DIFFER. */
 void aglimtaq_read_previous(const uint8_t *bytes, size_t length, struct aglimtaq_position *position,
                             struct aglimtaq_reading *reading);
 
@@ -174,7 +179,7 @@ uint64_t aglimtaq_count(const uint8_t *bytes, size_t length, uint64_t *end);
 struct aglimtaq_end {
     uint64_t position;
     uint64_t wanted;  /* the number wanted there, or 0 */
-    uint64_t refused; /* NO_START, where that ended a walk backwards; NOT_A_FORM; or 0 */
+    uint64_t refused; /* NO_START or ENDS_DIFFER, where that ended a walk backwards; NOT_A_FORM; or 0 */
 };
 
 /* A walk over a whole trace in one form: every reading from 0 on, as aglimtaq_read_next gives them, up to the first

@@ -4,7 +4,7 @@ use mathlib.Core.List.{List, [], _∷_, _++_}
 use Prim.Native.Nat.{ℕ, zero, suc, _+_, _-_, _≤_}
 use native.Mathlib.Omega.{arith}
 use lib.ListN.{length, take, drop, length-drop, length-take}
-use lib.Seq.{take-all, take-add, take-take, drop-drop, getD-drop, take-at, drop-at}
+use lib.Seq.{length-take-le, take-all, take-add, take-take, drop-drop, getD-drop, take-at, drop-at}
 use Rattle.numbers.specs.Lists.{Bytes, part}
 
 -- the rest of a slice, `&s[at..]`, is its `drop`
@@ -28,13 +28,18 @@ part-add s at m n = take-add m n (drop at s) ∙ ap (λ (r : List ℕ). part s a
 pub part-at : (p q r : List ℕ) (at n : ℕ) → length p ≡ at → length q ≡ n → part (p ++ (q ++ r)) at n ≡ q
 part-at p q r at n e f = ap (take n) (drop-at p (q ++ r) at e) ∙ take-at q r n f
 
--- a part of a part
-part-take : (d : List ℕ) (k n m : ℕ) → k + n ≤ m → part (take m d) k n ≡ part d k n
+-- a part of the first m elements, and of a part
+pub part-take : (d : List ℕ) (k n m : ℕ) → k + n ≤ m → part (take m d) k n ≡ part d k n
 part-take d zero n m h = take-take n m d (omega arith)
 part-take [] (suc k) n zero h = refl
 part-take [] (suc k) n (suc m) h = refl
 part-take (x ∷ d) (suc k) n zero h = absurd (omega arith)
 part-take (x ∷ d) (suc k) n (suc m) h = part-take d k n m (omega arith)
+
+-- the rest of the first m elements is a part
+pub drop-take : (s : List ℕ) (n m : ℕ) → n ≤ m → m ≤ length s → drop n (take m s) ≡ part s n (m - n)
+drop-take s n m h k =
+    sym (rest-is-drop (take m s) n) ∙ ap (λ (l : ℕ). take (l - n) (drop n (take m s))) (length-take-le m s k) ∙ part-take s n (m - n) m (omega arith)
 
 pub part-part : (s : List ℕ) (at m k n : ℕ) → k + n ≤ m → part (part s at m) k n ≡ part s (at + k) n
 part-part s at m k n h = part-take (drop at s) k n m h ∙ ap (take n) (drop-drop k at s)

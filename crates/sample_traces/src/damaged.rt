@@ -5,7 +5,7 @@ use records::position::Position;
 use records::position::Written;
 
 // One byte altered; outside of the buffer none.
-fn spoil(out: &mut [u8], at: usize, byte: u8) {
+pub(crate) fn spoil(out: &mut [u8], at: usize, byte: u8) {
     if at < out.len() {
         out[at] = byte;
     }

@@ -1,12 +1,13 @@
 // Makes the samples: reads one digit from standard input and writes the bytes of the trace that it names
-// to standard output, 1 boot, 2 ride, 3 foreign, 4 damaged. For any other input it writes nothing, and
-// nothing where a record was refused.
+// to standard output, 1 boot, 2 ride, 3 foreign, 4 damaged, 5 scratched. For any other input it writes nothing,
+// and nothing where a record was refused.
 mod begin;
 mod boot;
 mod damaged;
 mod foreign;
 mod put;
 mod ride;
+mod scratched;
 
 use libc::STDIN_FILENO;
 use libc::STDOUT_FILENO;
@@ -20,6 +21,7 @@ fn made(out: &mut [u8], digit: u8) -> Written {
         b'2' => ride::ride(out),
         b'3' => foreign::foreign(out),
         b'4' => damaged::damaged(out),
+        b'5' => scratched::scratched(out),
         _ => put::empty(),
     }
 }

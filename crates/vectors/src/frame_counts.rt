@@ -5,9 +5,9 @@ ghost use Prim.Native.Nat.{_+_, _^_, _≤_, _<_};
 ghost use Rattle.frames.specs.Frames.{entries};
 use crate::plain_frames::Answer;
 use crate::plain_frames::FOUND;
+use crate::plain_frames::LATER;
 use crate::plain_frames::NONE;
 use crate::plain_frames::Reading;
-use crate::plain_frames::SHORT;
 use crate::plain_frames::plain;
 use crate::plain_frames::says;
 use crate::slices::string;
@@ -17,6 +17,7 @@ use frames::read::Content;
 use frames::read::Frame;
 use frames::read::Start;
 use frames::read::one_record_in;
+use frames::read::previous_record_in;
 use frames::read::previous_start;
 use frames::read::value_in;
 
@@ -28,8 +29,8 @@ fn of_frame(frame: Frame) -> Answer {
 }
 
 fn refused(n: u8) -> Answer {
-    if n == 2 {
-        says(SHORT, 2, 0)
+    if n == 2 || n == 16 {
+        says(LATER, n as usize, 0)
     } else {
         says(NONE, n as usize, 0)
     }
@@ -56,14 +57,15 @@ fn read(reading: Reading, heads: &[u16; 256], s: &[u8]) -> Answer
     match reading {
         Reading::Record => of_frame(one_record_in(heads, s)),
         Reading::Value => of_content(value_in(heads, s)),
-        Reading::Previous => of_start(previous_start(s)),
+        Reading::Start => of_start(previous_start(s)),
+        Reading::Previous => of_start(previous_record_in(heads, s)),
     }
 }
 
 struct Tally {
     found: usize,
     none: usize,
-    short: usize,
+    later: usize,
     differ: usize,
 }
 
@@ -73,22 +75,22 @@ fn same(x: Answer, y: Answer) -> bool {
 
 // One answer more of a sort.
 fn sorted(t: Tally, sort: u8) -> Tally
-    requires { ⌜ (t .found < 2 ^ 32) × (t .none < 2 ^ 32) × (t .short < 2 ^ 32) ⌝ }
-    ensures { λ r. ⌜ (r .found ≤ t .found + 1) × (r .none ≤ t .none + 1) × (r .short ≤ t .short + 1) × (r .differ ≤ t .differ) ⌝ }
+    requires { ⌜ (t .found < 2 ^ 32) × (t .none < 2 ^ 32) × (t .later < 2 ^ 32) ⌝ }
+    ensures { λ r. ⌜ (r .found ≤ t .found + 1) × (r .none ≤ t .none + 1) × (r .later ≤ t .later + 1) × (r .differ ≤ t .differ) ⌝ }
 {
     let mut r = t;
     match sort {
         FOUND => r.found = t.found + 1,
         NONE => r.none = t.none + 1,
-        _ => r.short = t.short + 1,
+        _ => r.later = t.later + 1,
     }
     r
 }
 
 // One string more, of which frames says x and the plain reading y.
 fn counted(t: Tally, x: Answer, y: Answer) -> Tally
-    requires { ⌜ (t .found < 2 ^ 32) × (t .none < 2 ^ 32) × (t .short < 2 ^ 32) × (t .differ < 2 ^ 32) ⌝ }
-    ensures { λ r. ⌜ (r .found ≤ t .found + 1) × (r .none ≤ t .none + 1) × (r .short ≤ t .short + 1) × (r .differ ≤ t .differ + 1) ⌝ }
+    requires { ⌜ (t .found < 2 ^ 32) × (t .none < 2 ^ 32) × (t .later < 2 ^ 32) × (t .differ < 2 ^ 32) ⌝ }
+    ensures { λ r. ⌜ (r .found ≤ t .found + 1) × (r .none ≤ t .none + 1) × (r .later ≤ t .later + 1) × (r .differ ≤ t .differ + 1) ⌝ }
 {
     let mut r = sorted(t, x.sort);
     if !same(x, y) {
@@ -105,7 +107,7 @@ fn count_all(reading: Reading, heads: &[u16; 256], n: usize, strings: usize) -> 
     let mut t = Tally {
         found: 0,
         none: 0,
-        short: 0,
+        later: 0,
         differ: 0,
     };
     let mut i = 0;
@@ -138,7 +140,7 @@ fn values(heads: &[u16; 256], n: usize, strings: usize)
     let t = count_all(Reading::Value, heads, n, strings);
     print::count(t.found as u64, b" contents, ");
     print::count(t.none as u64, b" refused with 1, ");
-    print::count(t.short as u64, b" with 2, ");
+    print::count(t.later as u64, b" with 2, ");
     print::count(t.differ as u64, b" differ; ");
 }
 
@@ -146,9 +148,20 @@ fn starts(heads: &[u16; 256], n: usize, strings: usize)
     requires { ⌜ now heads ≡ entries ⌝ }
     requires { ⌜ (n ≤ 3) × (strings ≤ 16777216) ⌝ }
 {
-    let t = count_all(Reading::Previous, heads, n, strings);
+    let t = count_all(Reading::Start, heads, n, strings);
     print::count(t.found as u64, b" starts, ");
     print::count(t.none as u64, b" refused with 6, ");
+    print::count(t.differ as u64, b" differ; ");
+}
+
+fn found(heads: &[u16; 256], n: usize, strings: usize)
+    requires { ⌜ now heads ≡ entries ⌝ }
+    requires { ⌜ (n ≤ 3) × (strings ≤ 16777216) ⌝ }
+{
+    let t = count_all(Reading::Previous, heads, n, strings);
+    print::count(t.found as u64, b" found, ");
+    print::count(t.none as u64, b" refused with 6, ");
+    print::count(t.later as u64, b" with 16, ");
     print::count(t.differ as u64, b" differ\n");
 }
 
@@ -161,6 +174,7 @@ fn line(heads: &[u16; 256], n: usize, strings: usize)
     records(heads, n, strings);
     values(heads, n, strings);
     starts(heads, n, strings);
+    found(heads, n, strings);
 }
 
 pub(crate) fn list() {

@@ -3,7 +3,7 @@
 use crate::ours;
 use crate::tally::Tally;
 use crate::whole::Adding;
-use compare::answer::{Answer, Entry, Reading, SHOWN};
+use compare::answer::{Answer, Entry, Reading, REFUSED_AT, SHOWN};
 use compare::form::Form;
 use compare::source::{self, Said};
 
@@ -86,7 +86,7 @@ fn walk_back(bytes: &[u8], tally: &mut Tally) {
 fn previous(bytes: &[u8], position: usize, tally: &mut Tally) -> Said<Answer> {
     let (what, at, form) = ("read_previous, position", position as u64, tally.form());
     let ours = ours::read_previous(bytes, form.at(at));
-    match source::start(bytes, position) {
+    let said = match source::start(bytes, position) {
         Ok(start) => {
             let said = source::previous(bytes, start, position, form);
             tally.hold(what, at, &said, &ours);
@@ -97,6 +97,18 @@ fn previous(bytes: &[u8], position: usize, tally: &mut Tally) -> Said<Answer> {
             tally.unframed(what, at, &none, &ours);
             Said::inside(none)
         }
+    };
+    forward(bytes, at, &ours, tally);
+    said
+}
+
+/// Where ours framed a record backwards from `at`: from the position that it handed back it must read the same record
+/// forwards, and hand back `at`.
+fn forward(bytes: &[u8], at: u64, back: &Answer, tally: &mut Tally) {
+    if matches!(back.reading.answer, SHOWN | REFUSED_AT) {
+        let says = Answer { position: tally.form().at(at), reading: back.reading };
+        let ours = ours::read_next(bytes, back.position);
+        tally.forward("read_next, position", back.position.at, &says, &ours);
     }
 }
 

@@ -9,6 +9,8 @@ use dynamic_trace::{index, lenlen, vlen, RawRecord};
 use std::error::Error;
 
 const NO_START: u64 = 6;
+/// Document 02's, M-104: read forwards, the record found from the trailer ends elsewhere, or is unfinished.
+pub const ENDS_DIFFER: u64 = 16;
 
 /// An answer that ours must equal: the original's own or, outside the domain, the one that document 01 or 02 defines.
 pub struct Said<T> {
@@ -121,9 +123,18 @@ pub fn previous(bytes: &[u8], start: usize, position: usize, form: Form) -> Said
     Said { says: Answer { position: form.at(reading.start), reading }, outside }
 }
 
-/// Where the record starts that ends at `position`, or why there is none. The original has no such function; this is
-/// document 01's rule.
+/// Where the record starts that ends at `position`, or why there is none. The original has no such function: document
+/// 01's rule gives the start and, by M-104 of document 02, the record there must end at the position, read forwards.
 pub fn start(bytes: &[u8], position: usize) -> Result<usize, Reading> {
+    let start = led_to(bytes, position)?;
+    match frames(bytes, start, position) {
+        true => Ok(start),
+        false => Err(Reading::last(REFUSED, ENDS_DIFFER)),
+    }
+}
+
+/// Where the trailer that ends at `position` leads, or why there is no such place.
+fn led_to(bytes: &[u8], position: usize) -> Result<usize, Reading> {
     let Some(&last) = bytes[..position].last() else {
         return Err(Reading::last(FINISHED, 0));
     };
@@ -135,6 +146,14 @@ pub fn start(bytes: &[u8], position: usize) -> Result<usize, Reading> {
         _ => position.checked_sub(1 + usize::from(last)),
     };
     found.ok_or(Reading::last(REFUSED, NO_START))
+}
+
+/// Whether the record at `start` ends at `position`. The bytes after the position have no part in that.
+fn frames(bytes: &[u8], start: usize, position: usize) -> bool {
+    let length = Ok(position - start);
+    let [without, with] = [position, bytes.len()].map(|end| index::one_record(&bytes[start..end]) == length);
+    assert!(without == with, "a frame that depends on the bytes after it");
+    with
 }
 
 /// The names of the register list that starts at offset `list` of `record`, by their offsets in the list.

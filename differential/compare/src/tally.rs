@@ -1,9 +1,10 @@
 //! What was compared, class by class, and the first difference.
 
+use compare::answer::Answer;
 use compare::form::Form;
 use compare::hex::tokens;
 use compare::random::Random;
-use compare::source::{Outside, Said};
+use compare::source::{Outside, Said, ENDS_DIFFER};
 use std::fmt::{Debug, Display};
 use std::hint::black_box;
 
@@ -32,6 +33,22 @@ const ORIGINAL: &str = "the original";
 const DOCUMENT: &str = "document 01";
 const CHANGES: &str = "document 02";
 const SINGLE_CALLS: &str = "single calls";
+const BACKWARDS: &str = "backwards";
+
+/// The columns of the report between the class and the reasons, and their widths.
+const COLUMNS: [(&str, usize); 11] = [
+    ("inputs", 10),
+    ("inside", 10),
+    ("compared", 11),
+    ("unframed", 11),
+    ("outside", 9),
+    ("beyond", 11),
+    ("rows", 9),
+    ("differences", 11),
+    ("forward", 10),
+    ("with 16", 9),
+    ("of 16", 9),
+];
 
 #[derive(Default)]
 pub struct Tally {
@@ -50,9 +67,15 @@ pub struct Tally {
     /// Rows of records that ours also wrote by one call, compared with what its single calls left.
     rows: u64,
     differences: u64,
+    /// Records that ours framed backwards, and then read forwards.
+    forward: u64,
+    /// Inputs with a 16, and how many answers are 16. These are among the unframed.
+    with_differing_ends: u64,
+    differing_ends: u64,
     first: Option<String>,
     input: Vec<u8>,
     reason: Option<Outside>,
+    ends_differ: bool,
     random: Random,
 }
 
@@ -72,6 +95,7 @@ impl Tally {
         self.input.clear();
         self.input.extend_from_slice(bytes);
         self.reason = None;
+        self.ends_differ = false;
     }
 
     /// One of several values, chosen at random.
@@ -93,6 +117,7 @@ impl Tally {
             let at = REASONS.iter().position(|(outside, _)| *outside == reason);
             self.reasons[at.expect("a reason")] += 1;
         }
+        self.with_differing_ends += u64::from(self.ends_differ);
     }
 
     /// Compares ours with what must be answered; false where they differ.
@@ -132,9 +157,19 @@ impl Tally {
     }
 
     /// The same, where reading backwards frames no record.
-    pub fn unframed<T: PartialEq + Debug>(&mut self, what: &str, at: u64, says: &T, ours: &T) {
+    pub fn unframed(&mut self, what: &str, at: u64, says: &Answer, ours: &Answer) {
         self.unframed += 1;
-        self.equal(&what, at, DOCUMENT, says, ours);
+        let changed = says.reading.number == ENDS_DIFFER;
+        self.differing_ends += u64::from(changed);
+        self.ends_differ |= changed;
+        let document = if changed { CHANGES } else { DOCUMENT };
+        self.equal(&what, at, document, says, ours);
+    }
+
+    /// Compares what ours reads forwards with what it read backwards.
+    pub fn forward(&mut self, what: &str, at: u64, says: &Answer, ours: &Answer) {
+        self.forward += 1;
+        self.equal(&what, at, BACKWARDS, says, ours);
     }
 
     /// Compares what one call left of a row with what the single calls must leave. The bytes of the row are `bytes`.
@@ -187,29 +222,41 @@ impl Tally {
         self.beyond += other.beyond;
         self.rows += other.rows;
         self.differences += other.differences;
+        self.forward += other.forward;
+        self.with_differing_ends += other.with_differing_ends;
+        self.differing_ends += other.differing_ends;
         self.first = self.first.take().or_else(|| other.first.clone());
     }
 
     pub fn header() -> String {
-        let counts = ["inputs", "inside", "compared", "unframed", "outside", "beyond", "rows", "differences"];
-        row("class", counts, "inputs not inside, by reason")
+        row("class", COLUMNS.map(|(column, _)| column), "inputs not inside, by reason")
     }
 
     pub fn line(&self, name: &str) -> String {
         let inside = self.inputs - self.reasons.iter().sum::<u64>();
-        let Tally { inputs, compared, unframed, outside, beyond, rows, differences, .. } = *self;
-        let counts = [inputs, inside, compared, unframed, outside, beyond, rows, differences];
+        let counts = [
+            self.inputs,
+            inside,
+            self.compared,
+            self.unframed,
+            self.outside,
+            self.beyond,
+            self.rows,
+            self.differences,
+            self.forward,
+            self.with_differing_ends,
+            self.differing_ends,
+        ];
         let named = REASONS.iter().zip(self.reasons).filter(|(_, count)| *count > 0);
         let reasons: Vec<String> = named.map(|((_, reason), count)| format!("{count} {reason}")).collect();
         row(name, counts, &reasons.join(", "))
     }
 }
 
-fn row<T: Display>(name: &str, counts: [T; 8], reasons: &str) -> String {
-    let [inputs, inside, compared, unframed, outside, beyond, rows, differences] = counts;
-    let counted = format!(
-        "{inputs:>10} {inside:>10} {compared:>11} {unframed:>11} {outside:>9} {beyond:>11} {rows:>9}"
-    );
-    let row = format!("{name:<17} {counted} {differences:>11}  {reasons}");
-    row.trim_end().into()
+fn row<T: Display>(name: &str, counts: [T; COLUMNS.len()], reasons: &str) -> String {
+    let mut row = format!("{name:<17}");
+    for (count, (_, width)) in counts.iter().zip(COLUMNS) {
+        row += &format!(" {count:>width$}");
+    }
+    format!("{row}  {reasons}").trim_end().into()
 }

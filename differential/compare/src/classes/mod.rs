@@ -4,6 +4,7 @@
 mod kinds;
 mod lists;
 mod names;
+mod scratches;
 mod sizes;
 mod text;
 pub mod traces;
@@ -15,6 +16,7 @@ use crate::frame::{self, KINDS};
 use kinds::{kinds, lengths, magic, tag_rows, tags};
 use lists::lists;
 use names::names;
+use scratches::scratched;
 use sizes::{long, sizes};
 use text::text;
 use traces::{damaged, emitted, other_forms, random_strings, written};
@@ -67,7 +69,7 @@ const fn class<T: ?Sized>(
 /// Bytes that are checked for text alone. No form has a part in that.
 pub const TEXT: Class = class("text", text, [500_000, 20_000_000], [0, 0]);
 
-pub const CLASSES: [Class; 18] = [
+pub const CLASSES: [Class; 19] = [
     class("examples", examples, [1, 1], [99, 9]),
     class("up to three bytes", up_to_three, [1, 1], [300, 0]),
     class("four bytes", four, [1, 2], [100, 0]),
@@ -84,6 +86,7 @@ pub const CLASSES: [Class; 18] = [
     class("written traces", written, [500_000, 10_000_000], [250, 60]),
     class("emitted traces", emitted, [200_000, 5_000_000], [250, 60]),
     class("damaged traces", damaged, [3_000_000, 60_000_000], [350, 60]),
+    class("scratched traces", scratched, [200_000, 4_000_000], [0, 0]),
     class("random strings", random_strings, [3_000_000, 60_000_000], [300, 30]),
     class("other forms", other_forms, [300_000, 3_000_000], [0, 30]),
 ];

@@ -8,7 +8,7 @@ use Rattle.vectors.proofs.frame_counts.count_all.Statement.{statement}
 use Rattle.vectors.proofs.frame_counts.count_all.Tie as tie
 
 abbrev Inv-loop : tie.InvT-loop
-Inv-loop reading heads n strings t₀ i₀ t i = (t .found ≤ i) × (t .none ≤ i) × (t .short ≤ i) × (t .differ ≤ i) × (i ≤ strings)
+Inv-loop reading heads n strings t₀ i₀ t i = (t .found ≤ i) × (t .none ≤ i) × (t .later ≤ i) × (t .differ ≤ i) × (i ≤ strings)
 
 abbrev μ-loop : tie.MeasureT-loop
 μ-loop reading heads n strings t₀ i₀ t i = strings - i
