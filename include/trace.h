@@ -65,7 +65,7 @@ enum aglimtaq_refusal {
     AGLIMTAQ_NAME_NOT_TEXT = 5, /* a function's name that is not UTF-8 */
     AGLIMTAQ_NO_START = 6,      /* backwards only: the trailer leads to before the first byte */
     AGLIMTAQ_UNKNOWN_KIND = 7,  /* a kind of record that this format does not have */
-    AGLIMTAQ_ENDS_DIFFER = 16,  /* backwards only: the trailer leads to where no record starts that ends at the position */
+    AGLIMTAQ_ENDS_DIFFER = 16,  /* backwards only: the record that the trailer leads to does not end at the position */
     /* The caller's mistakes. */
     AGLIMTAQ_BEYOND_END = 8,    /* the position lies beyond the end of the bytes */
     AGLIMTAQ_NO_ROOM = 9,       /* the output is too small for the record */
