@@ -7,7 +7,8 @@
  * - It reads the bytes that it is lent and no others.
  * - It writes what its last argument points to, if that is a pointer: all of it at every call, and nothing else.
  *   Some write more: a walk writes its last three arguments, a call that takes a position moves it, aglimtaq_write
- *   writes a record into `out`, and aglimtaq_write_all writes a list of records into it.
+ *   writes a record into `out`, aglimtaq_write_all writes a list of records into it, and aglimtaq_begin,
+ *   aglimtaq_portion and aglimtaq_close write a part of a record into it.
  * - Where a form is none of the four, it writes nothing but that refusal, into a reading or the end of a walk.
  *
  * A function allocates nothing and keeps nothing. It may run in several threads at once, each with structs
@@ -41,11 +42,21 @@ enum aglimtaq_form {
     AGLIMTAQ_BE32 = 3  /* four bytes, most significant first */
 };
 
-/* Where a call reads or writes, and in which form. Each call moves `at`, or keeps it; none alters `form`. */
+/* Where a call reads or writes, in which form, and which record is open there. Each call moves `at`, or keeps it; none
+ * alters `form`. The other numbers are altered by aglimtaq_begin, aglimtaq_portion, aglimtaq_close and
+ * aglimtaq_abandon alone. Every number is allowed in every field; `start`, `stated` and `filled` count only where
+ * `pending` is not 0. */
 struct aglimtaq_position {
     uint64_t at;
-    uint64_t form; /* enum aglimtaq_form */
+    uint64_t form;    /* enum aglimtaq_form */
+    uint64_t pending; /* 0: no record is open */
+    uint64_t start;   /* where the open record starts */
+    uint64_t stated;  /* how many bytes it was stated to have after its address */
+    uint64_t filled;  /* how many of them have been accepted */
 };
+
+/* A position with no record open, as an initializer: struct aglimtaq_position p = AGLIMTAQ_AT(0, AGLIMTAQ_LE64); */
+#define AGLIMTAQ_AT(at, form) {(at), (form), 0, 0, 0, 0}
 
 /* What a reading says. Reading backwards never gives UNFINISHED, and gives FINISHED at position 0. */
 enum aglimtaq_answer {
@@ -74,6 +85,9 @@ enum aglimtaq_refusal {
     AGLIMTAQ_TAKEN_TAG = 12,    /* the tag of an unknown type that another type has */
     AGLIMTAQ_SHORT_LIST = 13,   /* a register list that does not hold its count of entries */
     AGLIMTAQ_WIDE_ADDRESS = 14, /* an address or UNMAP length above 4,294,967,295, to be written in four bytes */
+    AGLIMTAQ_RECORD_OPEN = 18,  /* a write or an opening while a record is open */
+    AGLIMTAQ_NONE_OPEN = 19,    /* a portion, a closing or an abandoning while none is open */
+    AGLIMTAQ_NOT_AS_STATED = 20, /* a portion beyond the stated length, or a closing short of it */
     AGLIMTAQ_NOT_A_RECORD = 256, /* a type that is not written, or a number that does not fit its type */
     AGLIMTAQ_NOT_A_FORM = 257   /* a form that is none of the four; this comes before every other refusal */
 };
@@ -124,7 +138,10 @@ struct aglimtaq_reading {
 
 /* The record that starts at the position. The first call reads at 0, each later one at the position that the call
  * before left, until the answer is FINISHED, UNFINISHED or REFUSED. Where a record is framed, the position becomes
- * its end; otherwise it is kept. */
+ * its end; otherwise it is kept.
+ *
+ * A position with an open record reads the bytes before that record, as if no others were lent; so does
+ * aglimtaq_read_previous. See aglimtaq_begin. */
 void aglimtaq_read_next(const uint8_t *bytes, size_t length, struct aglimtaq_position *position,
                         struct aglimtaq_reading *reading);
 
@@ -208,8 +225,8 @@ struct aglimtaq_record {
  *
  * Returns 0, and the position becomes that after the record, where the next call writes. Or returns why the record
  * is refused; then the position is kept, and no byte of `out` is altered. Of several reasons the first in this order
- * is given: NOT_A_FORM; NOT_A_RECORD; BEYOND_END; BAD_NAME, TAKEN_TAG or SHORT_LIST; WIDE_ADDRESS; LONG_CONTENT;
- * NO_ROOM.
+ * is given: NOT_A_FORM; NOT_A_RECORD; RECORD_OPEN; BEYOND_END; BAD_NAME, TAKEN_TAG or SHORT_LIST; WIDE_ADDRESS;
+ * LONG_CONTENT; NO_ROOM.
  *
  * NOT_A_RECORD is also given where a number has more bits than its type allows: 8 for a count or a tag, 16 for a
  * native register, 32 for a register, a thread, an interrupt or a size, 64 for every other. */
@@ -239,12 +256,48 @@ struct aglimtaq_all {
  * refused one are written, and the position is that after them. Of the refused one and of those after it nothing
  * is written, and no other byte of `out` is altered.
  *
+ * While a record is open, the first call is refused with RECORD_OPEN, if it is a record; with no calls 0 is returned.
+ *
  * To go on after a refusal, hand over the calls from `calls + all.records` on, the bytes from `bytes + all.bytes`
  * on, and the position as it was left. The first of these calls is the refused one: give it what it lacks, or
  * leave it out with its bytes. */
 uint64_t aglimtaq_write_all(uint8_t *out, size_t room, struct aglimtaq_position *position,
                             const struct aglimtaq_call *calls, size_t count, const uint8_t *bytes, size_t length,
                             struct aglimtaq_all *all);
+
+/* A MEM_WRITE in portions, while others already read: aglimtaq_begin opens it, aglimtaq_portion adds its bytes,
+ * aglimtaq_close ends it, and aglimtaq_abandon gives it up. Each call gets the position and `out` as the call before
+ * left them; nothing else is kept. Closing leaves in `out`, and in `at`, what one aglimtaq_write of all the bytes would
+ * have left. Until then `at` stays where the record starts: each of these calls goes by the open record's start, and
+ * puts `at` there. Closing and abandoning leave 0 in `pending`, `start`, `stated` and `filled`.
+ *
+ * Each returns 0, or why it is refused: then the position and every byte of `out` are as they were.
+ *
+ * Whoever reads meanwhile copies the recorder's position after the recorder's latest call, and reads `out` with the
+ * copy: forwards after setting its `at` to 0, backwards as it is. It sees the records that are closed, and then
+ * FINISHED. The copy is taken anew for each reading. An old one with a record open still ends where that record starts;
+ * an old one with none open sees all bytes of `out`, those of a record that is open by now too. With no record open,
+ * lend for reading forwards only the bytes before the position: those after it may be anything. The recorder must not
+ * write during a reading call.
+ *
+ * Opens a MEM_WRITE at the position, with this address and `stated` bytes to follow. Refusals, in this order:
+ * NOT_A_FORM, RECORD_OPEN, and as for writing that record BEYOND_END, WIDE_ADDRESS, LONG_CONTENT, NO_ROOM. Writes the
+ * bytes that come before the stated ones. */
+uint64_t aglimtaq_begin(uint8_t *out, size_t room, struct aglimtaq_position *position, uint64_t address, size_t stated);
+
+/* Adds the next bytes of the open record. There may be none. Refusals, in this order: NOT_A_FORM; NONE_OPEN;
+ * NOT_AS_STATED, where these are more than are left of the stated ones; BEYOND_END, where the open record starts
+ * beyond the end of `out`; NO_ROOM, where the record ends beyond it. */
+uint64_t aglimtaq_portion(uint8_t *out, size_t room, struct aglimtaq_position *position, const uint8_t *bytes,
+                          size_t length);
+
+/* Closes the open record: writes its trailer, and the position becomes that after it. Refusals, in this order:
+ * NOT_A_FORM; NONE_OPEN; NOT_AS_STATED, where `filled` is less than `stated`; BEYOND_END and NO_ROOM as above. */
+uint64_t aglimtaq_close(uint8_t *out, size_t room, struct aglimtaq_position *position);
+
+/* Gives the open record up: `at` becomes its start, and no record is open. What was written of it stays in `out`.
+ * Refusals: NOT_A_FORM, NONE_OPEN. */
+uint64_t aglimtaq_abandon(struct aglimtaq_position *position);
 
 #ifdef __cplusplus
 }

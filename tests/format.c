@@ -21,7 +21,7 @@ static uint64_t put_in(uint64_t form, uint64_t at, uint64_t type, uint64_t first
                        size_t length)
 {
     struct aglimtaq_record record = {type, {first, second, 0}};
-    struct aglimtaq_position position = {at, form};
+    struct aglimtaq_position position = AGLIMTAQ_AT(at, form);
     uint64_t answer = aglimtaq_write(out, sizeof out, &position, &record, bytes, length);
     if (answer != 0)
         printf("type %llu refused with %llu\n", (unsigned long long)type, (unsigned long long)answer);

@@ -160,7 +160,7 @@ static void same_reading(const char *what, uint64_t form, size_t which, const st
 /* Writes the examples one after the other; returns the end. */
 static uint64_t write_examples(uint64_t form)
 {
-    struct aglimtaq_position position = {0, form};
+    struct aglimtaq_position position = AGLIMTAQ_AT(0, form);
     uint64_t end = 0;
     fresh();
     for (size_t i = 0; i < COUNT(examples); i++) {
@@ -178,7 +178,7 @@ static uint64_t write_examples(uint64_t form)
 /* The same by one call. */
 static void write_list(uint64_t form, uint64_t end)
 {
-    struct aglimtaq_position position = {0, form};
+    struct aglimtaq_position position = AGLIMTAQ_AT(0, form);
     struct aglimtaq_call calls[COUNT(examples)];
     struct aglimtaq_all all = {12345, 12345};
     uint8_t bytes[20];
@@ -213,7 +213,7 @@ static struct aglimtaq_reading shown(const struct example *e, uint64_t form, uin
 
 static void read_examples(uint64_t form, uint64_t end)
 {
-    struct aglimtaq_position forth = {0, form}, back = {end, form};
+    struct aglimtaq_position forth = AGLIMTAQ_AT(0, form), back = AGLIMTAQ_AT(end, form);
     struct aglimtaq_reading r, should;
     for (size_t i = 0; i < COUNT(examples); i++) {
         should = shown(&examples[i], form, forth.at);
@@ -270,7 +270,7 @@ static void write_one(const char *what, size_t which, struct aglimtaq_position p
  * tests/long.c has it before 10. */
 static void wide(uint64_t form)
 {
-    const struct aglimtaq_position start = {0, form}, beyond = {ROOM + 1, form};
+    const struct aglimtaq_position start = AGLIMTAQ_AT(0, form), beyond = AGLIMTAQ_AT(ROOM + 1, form);
     const int four = form >= AGLIMTAQ_LE32;
     for (size_t i = 0; i < COUNT(places); i++) {
         struct aglimtaq_record record = {places[i].type, {0, 0, 0}};
@@ -298,7 +298,7 @@ static void ignored(uint64_t form)
         {AGLIMTAQ_CALL_END, {WIDE, 0, 0}},      {AGLIMTAQ_ADDRESS_DEPENDENCY_EDGE, {WIDE, 0, 0}},
         {AGLIMTAQ_PROCESS_ID, {WIDE, 0, 0}},
     };
-    const struct aglimtaq_position start = {0, form};
+    const struct aglimtaq_position start = AGLIMTAQ_AT(0, form);
     for (size_t i = 0; i < COUNT(records); i++)
         write_one("a number without a form", i, start, ROOM, &records[i], 0);
 }
@@ -309,7 +309,7 @@ static void read_others(void)
     struct aglimtaq_reading r, should;
     for (size_t i = 0; i < COUNT(others); i++) {
         const uint64_t form = others[i].form, size = others[i].size;
-        struct aglimtaq_position forth = {0, form}, back = {size, form};
+        struct aglimtaq_position forth = AGLIMTAQ_AT(0, form), back = AGLIMTAQ_AT(size, form);
         uint8_t bytes[sizeof others[i].bytes];
         memcpy(bytes, others[i].bytes, sizeof bytes);
         memset(&r, 0xa5, sizeof r);
@@ -358,7 +358,7 @@ static void read_no_form(uint64_t form)
     struct aglimtaq_reading r;
     for (size_t i = 0; i < 2 * COUNT(at); i++) {
         const size_t length = i % 2 == 0 ? 11 : 0;
-        struct aglimtaq_position position = {at[i / 2], form};
+        struct aglimtaq_position position = AGLIMTAQ_AT(at[i / 2], form);
         memset(&r, 0xa5, sizeof r);
         aglimtaq_read_next(bytes, length, &position, &r);
         same_reading("no form, forwards", form, i, &r, &should);
@@ -396,7 +396,7 @@ static void write_no_form(uint64_t form)
 {
     static const struct aglimtaq_record good = {AGLIMTAQ_PC, {1, 0, 0}}, none = {AGLIMTAQ_NO_TYPE, {0, 0, 0}};
     static const struct aglimtaq_call calls[] = {{AGLIMTAQ_PC, {1, 0, 0}, 0}, {AGLIMTAQ_NO_TYPE, {0, 0, 0}, 1}};
-    const struct aglimtaq_position start = {0, form}, beyond = {ROOM + 1, form};
+    const struct aglimtaq_position start = AGLIMTAQ_AT(0, form), beyond = AGLIMTAQ_AT(ROOM + 1, form);
     write_one("no form", 0, start, ROOM, &good, AGLIMTAQ_NOT_A_FORM);
     write_one("no form and no record", 0, start, ROOM, &none, AGLIMTAQ_NOT_A_FORM);
     write_one("no form beyond the end", 0, beyond, ROOM, &good, AGLIMTAQ_NOT_A_FORM);

@@ -56,7 +56,7 @@ static int untouched(size_t at, size_t n)
 static void refused(const char *what, size_t room, const struct aglimtaq_record *record, size_t length, uint64_t form,
                     uint64_t due)
 {
-    struct aglimtaq_position position = {BEFORE, form};
+    struct aglimtaq_position position = AGLIMTAQ_AT(BEFORE, form);
     expect(what, aglimtaq_write(out, room, &position, record, slice, length), due);
     expect("the position kept", position.at, BEFORE);
     expect("bytes altered", !untouched(0, BEFORE + FRAME + AFTER), 0);
@@ -90,7 +90,7 @@ static void try(size_t which, uint64_t form)
 {
     const struct aglimtaq_record record = {types[which].type, {ADDRESS, 0, 0}};
     const size_t most = CONTENT - forms[form].width, room = BEFORE + FRAME;
-    struct aglimtaq_position position = {BEFORE, form};
+    struct aglimtaq_position position = AGLIMTAQ_AT(BEFORE, form);
     struct aglimtaq_reading r;
     memset(out, 0xee, BEFORE + FRAME + AFTER);
     refused("10", room, &record, most + 1, form, AGLIMTAQ_LONG_CONTENT);

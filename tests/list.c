@@ -34,7 +34,7 @@ int main(int argc, char **argv)
     size_t length = fread(bytes, 1, sizeof bytes, file);
     fclose(file);
 
-    struct aglimtaq_position position = {0, AGLIMTAQ_LE64};
+    struct aglimtaq_position position = AGLIMTAQ_AT(0, AGLIMTAQ_LE64);
     struct aglimtaq_reading r;
     struct aglimtaq_part names = {0, 0};
     for (;;) {

@@ -26,7 +26,7 @@ int main(int argc, char **argv)
     size_t length = fread(bytes, 1, sizeof bytes, file);
     fclose(file);
 
-    struct aglimtaq_position position = {length, AGLIMTAQ_LE64};
+    struct aglimtaq_position position = AGLIMTAQ_AT(length, AGLIMTAQ_LE64);
     struct aglimtaq_reading r;
     for (;;) {
         struct aglimtaq_position before = position;

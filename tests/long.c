@@ -147,7 +147,7 @@ static void prepare(struct trial *t)
 static void write_record(const struct trial *t)
 {
     const struct aglimtaq_record *record = &t->kind->record;
-    const struct aglimtaq_position start = {BEFORE, t->form};
+    const struct aglimtaq_position start = AGLIMTAQ_AT(BEFORE, t->form);
     struct aglimtaq_call call = {record->type, {record->numbers[0], 0, 0}, t->length};
     struct aglimtaq_position position = start;
     struct aglimtaq_all all;
@@ -190,7 +190,7 @@ static void same_reading(const char *what, const struct trial *t, const struct a
 static void read_record(const struct trial *t)
 {
     size_t end = BEFORE + t->whole;
-    struct aglimtaq_position forth = {BEFORE, t->form}, back = {end, t->form};
+    struct aglimtaq_position forth = AGLIMTAQ_AT(BEFORE, t->form), back = AGLIMTAQ_AT(end, t->form);
     struct aglimtaq_reading r;
     memset(&r, 0xa5, sizeof r);
     aglimtaq_read_next(out, end, &forth, &r);
@@ -206,7 +206,7 @@ static void read_record(const struct trial *t)
 /* The first n bytes of the record alone: how many it wants. */
 static void cut(const struct trial *t, size_t n, uint64_t wants)
 {
-    struct aglimtaq_position position = {BEFORE, t->form};
+    struct aglimtaq_position position = AGLIMTAQ_AT(BEFORE, t->form);
     struct aglimtaq_reading r;
     aglimtaq_read_next(out, BEFORE + n, &position, &r);
     expect("a cut record", t, r.answer, AGLIMTAQ_UNFINISHED);
@@ -247,7 +247,7 @@ static void read_names(const struct trial *t)
 static void refuse(const char *what, const struct trial *t, const struct aglimtaq_record *record, const uint8_t *zeros,
                    size_t length, uint64_t should)
 {
-    struct aglimtaq_position position = {BEFORE, t->form};
+    struct aglimtaq_position position = AGLIMTAQ_AT(BEFORE, t->form);
     memset(out, 0xee, BEFORE + AFTER);
     memset(due, 0xee, BEFORE + AFTER);
     expect(what, t, aglimtaq_write(out, BEFORE, &position, record, zeros, length), should);

@@ -58,7 +58,7 @@ static void list(int i)
 
 __attribute__((noinline)) int work_c(void)
 {
-    struct aglimtaq_position position = {0, form};
+    struct aglimtaq_position position = AGLIMTAQ_AT(0, form);
     for (int i = 0; i < RECORDS; i++)
         if (aglimtaq_write(out, ROOM, &position, &records[i], given, sizes[i]) != 0)
             return 0;
@@ -106,7 +106,7 @@ __attribute__((noinline)) int work_e_few(void)
 
 __attribute__((noinline)) int work_f(void)
 {
-    struct aglimtaq_position position = {0, form};
+    struct aglimtaq_position position = AGLIMTAQ_AT(0, form);
     struct aglimtaq_reading r;
     int shown = -1;
     do {
@@ -118,7 +118,7 @@ __attribute__((noinline)) int work_f(void)
 
 __attribute__((noinline)) int work_g(void)
 {
-    struct aglimtaq_position position = {0, form};
+    struct aglimtaq_position position = AGLIMTAQ_AT(0, form);
     struct aglimtaq_all all;
     return aglimtaq_write_all(out, ROOM, &position, calls, RECORDS, slices, taken, &all) == 0 &&
            all.records == RECORDS && position.at == length && all.bytes == taken;

@@ -45,7 +45,7 @@ static int same(size_t length, struct aglimtaq_position from, reader *read, walk
 /* Both walks in one form; 1, and how many records are framed and shown, where they count what they should. */
 static int walked(size_t length, uint64_t form, uint64_t *framed, uint64_t *shown)
 {
-    struct aglimtaq_position from = {0, form}, to = {length, form};
+    struct aglimtaq_position from = AGLIMTAQ_AT(0, form), to = AGLIMTAQ_AT(length, form);
     struct whole forth, back;
     uint64_t end;
     if (!same(length, from, aglimtaq_read_next, aglimtaq_walk, &forth)) {

@@ -59,7 +59,7 @@ static uint64_t write_one(size_t which, uint64_t at)
 {
     const struct call *call = &calls[which];
     uint8_t before[sizeof out];
-    struct aglimtaq_position position = {at, AGLIMTAQ_LE64};
+    struct aglimtaq_position position = AGLIMTAQ_AT(at, AGLIMTAQ_LE64);
     memcpy(before, out, sizeof out);
     uint64_t answer = aglimtaq_write(out, ROOM, &position, &call->record, call->bytes, call->length);
     expect("the answer of writing", which, answer, call->answer);
@@ -89,7 +89,7 @@ static void same_record(const char *way, size_t which, uint64_t at, const struct
 
 static void read_forwards(uint64_t end)
 {
-    struct aglimtaq_position position = {0, AGLIMTAQ_LE64};
+    struct aglimtaq_position position = AGLIMTAQ_AT(0, AGLIMTAQ_LE64);
     struct aglimtaq_reading r;
     uint64_t at = 0;
     for (size_t i = 0; i < COUNT(calls); i++) {
@@ -108,7 +108,7 @@ static void read_forwards(uint64_t end)
 
 static void read_backwards(uint64_t end)
 {
-    struct aglimtaq_position position = {end, AGLIMTAQ_LE64};
+    struct aglimtaq_position position = AGLIMTAQ_AT(end, AGLIMTAQ_LE64);
     struct aglimtaq_reading r;
     uint64_t at = end;
     for (size_t i = COUNT(calls); i-- > 0;) {
@@ -128,7 +128,7 @@ static void read_backwards(uint64_t end)
 /* The last record has four bytes. First one of them is cut off; then the position is beyond the end. */
 static void read_refused(uint64_t end)
 {
-    struct aglimtaq_position cut = {end - 4, AGLIMTAQ_LE64}, beyond = {end + 1, AGLIMTAQ_LE64};
+    struct aglimtaq_position cut = AGLIMTAQ_AT(end - 4, AGLIMTAQ_LE64), beyond = AGLIMTAQ_AT(end + 1, AGLIMTAQ_LE64);
     struct aglimtaq_reading r;
     aglimtaq_read_next(out, end - 1, &cut, &r);
     expect("a cut record", COUNT(calls), r.answer, AGLIMTAQ_UNFINISHED);
@@ -147,7 +147,7 @@ static void read_refused(uint64_t end)
 /* A call beyond the lent bytes, and one whose name is bad as well: 8 comes first. */
 static void write_beyond(void)
 {
-    struct aglimtaq_position beyond = {ROOM + 1, AGLIMTAQ_LE64};
+    struct aglimtaq_position beyond = AGLIMTAQ_AT(ROOM + 1, AGLIMTAQ_LE64);
     uint64_t answer = aglimtaq_write(out, ROOM, &beyond, &calls[0].record, calls[0].bytes, calls[0].length);
     expect("written beyond the end", 0, answer, AGLIMTAQ_BEYOND_END);
     expect("the position, beyond the end", 0, beyond.at, ROOM + 1);

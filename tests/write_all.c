@@ -132,7 +132,7 @@ static void go_on(const char *what, size_t which, size_t n)
 static void write_good(void)
 {
     uint8_t by_all[sizeof out];
-    struct aglimtaq_position one = {BEFORE, AGLIMTAQ_LE64};
+    struct aglimtaq_position one = AGLIMTAQ_AT(BEFORE, AGLIMTAQ_LE64);
     fresh();
     write_list("all", 0, all_good, ROOM, BEFORE, 0);
     left("all", 0, 0, COUNT);

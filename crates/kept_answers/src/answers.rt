@@ -40,7 +40,7 @@ fn last(at: u64, reading: &[u64; 10]) {
 // leaves its end in `position`, so after the last call the walk's end stands there.
 pub fn answer(bytes: &[u8], form: u64) {
     let mut reading = [0u64; 10];
-    let mut position = [0, form];
+    let mut position = [0, form, 0, 0, 0, 0];
     let mut left = bytes.len() + 1;
     while left > 0 {
         aglimtaq_read_next(bytes, &mut position, &mut reading);

@@ -8,7 +8,7 @@ use trace_c::aglimtaq_write;
 // What aglimtaq_write leaves of the record in an output that has room.
 fn written(record: &[u64; 4], bytes: &[u8], form: u64) {
     let mut out = [0u8; 66048];
-    let mut position = [0, form];
+    let mut position = [0, form, 0, 0, 0, 0];
     let refused = aglimtaq_write(&mut out, &mut position, record, bytes);
     if refused != 0 {
         return print::labelled(b"refused ", refused);

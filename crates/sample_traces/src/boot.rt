@@ -132,10 +132,14 @@ fn start(out: &mut [u8]) -> Written {
     load_r1(out, w)
 }
 
-pub(crate) fn boot(out: &mut [u8]) -> Written {
-    let w = start(out);
+fn calls(out: &mut [u8], w: Written) -> Written {
     let w = lcd_init(out, w);
     let w = fuel(out, w);
-    let w = coolant(out, w);
+    coolant(out, w)
+}
+
+pub(crate) fn boot(out: &mut [u8]) -> Written {
+    let w = start(out);
+    let w = calls(out, w);
     wait(out, w)
 }

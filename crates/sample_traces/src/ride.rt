@@ -160,10 +160,14 @@ fn interrupts(out: &mut [u8], w: Written) -> Written {
     copied(out, w)
 }
 
+fn draw(out: &mut [u8], w: Written) -> Written {
+    let w = drawing(out, w);
+    drawn(out, w)
+}
+
 pub(crate) fn ride(out: &mut [u8]) -> Written {
     let w = start(out);
     let w = interrupts(out, w);
-    let w = drawing(out, w);
-    let w = drawn(out, w);
+    let w = draw(out, w);
     last(out, w)
 }

@@ -1,4 +1,6 @@
+mod PlaceLaws
 mod CallLaws
 mod DirectLaws
+mod OpeningLaws
 pub mod Theorem
 pub mod Examples

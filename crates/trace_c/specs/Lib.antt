@@ -4,5 +4,6 @@ pub mod Fields
 pub mod Given
 pub mod Reading
 pub mod Writing
+pub mod Openings
 pub mod Direct
 pub mod Calls

@@ -2,7 +2,7 @@
 ghost use mathlib.Core.Path.{_≡_};
 ghost use Rattle.frames.specs.Frames.{needed, valueOf};
 ghost use Rattle.records.specs.Reading.{nextName};
-ghost use Rattle.records.specs.Positions.{readNext, readPrevious};
+ghost use Rattle.records.specs.Positions.{pendingOf, visible, readNext, readPrevious};
 ghost use Rattle.trace_c.specs.Forms.{formOf, formIn};
 ghost use Rattle.trace_c.specs.Reading.{placeBy, readingBy, parsedBy, flatContent, contentNumber, flatName, nameNumber};
 use crate::fields::of_answer;
@@ -10,11 +10,11 @@ use crate::fields::of_parsed;
 use crate::form::Formed;
 use crate::form::NOT_A_FORM;
 use crate::form::form_of;
+use crate::place::place_of;
 use frames::read::Content;
 use frames::read::Frame;
 use frames::read::one_record;
 use frames::read::value;
-use records::position::Position;
 use records::record::Record;
 use records::registers::Names;
 use records::registers::NextName;
@@ -23,13 +23,14 @@ use records::registers::NextName;
 const NO_FORM: [u64; 10] = [2, NOT_A_FORM, 0, 0, 0, 0, 0, 0, 0, 0];
 
 #[no_mangle]
-pub extern "C" fn aglimtaq_read_next(bytes: &[u8], position: &mut [u64; 2], reading: &mut [u64; 10])
-    ensures { λ _. ⌜ now (position .exit) ≡ placeBy (readNext (now (bytes .entry))) (now (position .entry)) (formIn (now (position .entry))) ⌝ }
-    ensures { λ _. ⌜ now (reading .exit) ≡ readingBy (readNext (now (bytes .entry))) (now (position .entry)) (formIn (now (position .entry))) ⌝ }
+pub extern "C" fn aglimtaq_read_next(bytes: &[u8], position: &mut [u64; 6], reading: &mut [u64; 10])
+    ensures { λ _. ⌜ now (position .exit) ≡ placeBy (λ q. readNext (visible (now (bytes .entry)) (pendingOf q)) q) (now (position .entry)) (formIn (now (position .entry))) ⌝ }
+    ensures { λ _. ⌜ now (reading .exit) ≡ readingBy (λ q. readNext (visible (now (bytes .entry)) (pendingOf q)) q) (now (position .entry)) (formIn (now (position .entry))) ⌝ }
 {
-    match form_of(position[1]) {
+    let numbers = *position;
+    match form_of(numbers[1]) {
         Formed::Form(form) => {
-            let next = Position::at(position[0] as usize, form).read_next(bytes);
+            let next = place_of(numbers, form).read_next(bytes);
             let place = next.position;
             let answer = next.answer;
             position[0] = place.at as u64;
@@ -42,15 +43,16 @@ pub extern "C" fn aglimtaq_read_next(bytes: &[u8], position: &mut [u64; 2], read
 #[no_mangle]
 pub extern "C" fn aglimtaq_read_previous(
     bytes: &[u8],
-    position: &mut [u64; 2],
+    position: &mut [u64; 6],
     reading: &mut [u64; 10],
 )
-    ensures { λ _. ⌜ now (position .exit) ≡ placeBy (readPrevious (now (bytes .entry))) (now (position .entry)) (formIn (now (position .entry))) ⌝ }
-    ensures { λ _. ⌜ now (reading .exit) ≡ readingBy (readPrevious (now (bytes .entry))) (now (position .entry)) (formIn (now (position .entry))) ⌝ }
+    ensures { λ _. ⌜ now (position .exit) ≡ placeBy (λ q. readPrevious (visible (now (bytes .entry)) (pendingOf q)) q) (now (position .entry)) (formIn (now (position .entry))) ⌝ }
+    ensures { λ _. ⌜ now (reading .exit) ≡ readingBy (λ q. readPrevious (visible (now (bytes .entry)) (pendingOf q)) q) (now (position .entry)) (formIn (now (position .entry))) ⌝ }
 {
-    match form_of(position[1]) {
+    let numbers = *position;
+    match form_of(numbers[1]) {
         Formed::Form(form) => {
-            let previous = Position::at(position[0] as usize, form).read_previous(bytes);
+            let previous = place_of(numbers, form).read_previous(bytes);
             let start = previous.position;
             let answer = previous.answer;
             position[0] = start.at as u64;

@@ -11,8 +11,8 @@ use crate::form::NOT_A_FORM;
 use crate::form::form_of;
 use crate::given::Given;
 use crate::given::new_of;
+use crate::place::place_of;
 use records::judge::Verdict;
-use records::position::Position;
 
 fn number_of(verdict: Verdict) -> u64
     ensures { λ r. ⌜ r ≡ verdictNumber verdict ⌝ }
@@ -26,7 +26,7 @@ fn number_of(verdict: Verdict) -> u64
 #[no_mangle]
 pub extern "C" fn aglimtaq_write(
     out: &mut [u8],
-    position: &mut [u64; 2],
+    position: &mut [u64; 6],
     record: &[u64; 4],
     bytes: &[u8],
 ) -> u64
@@ -38,14 +38,14 @@ pub extern "C" fn aglimtaq_write(
     match form_of(position[1]) {
         Formed::Form(form) => {
             let at = position[0] as usize;
-            let direct = write_direct(out, at, form, record[0], record[1], bytes);
+            let direct = write_direct(out, at, form, position[2], record[0], record[1], bytes);
             if direct.made {
                 position[0] = direct.at as u64;
                 return direct.number;
             }
             match new_of(record[0], record[1], record[2], record[3]) {
                 Given::Record(new) => {
-                    let written = Position::at(at, form).write(out, new, bytes);
+                    let written = place_of(*position, form).write(out, new, bytes);
                     let place = written.position;
                     let verdict = written.verdict;
                     position[0] = place.at as u64;

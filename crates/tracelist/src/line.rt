@@ -9,7 +9,7 @@ ghost use Rattle.tracelist.specs.Listing.{recordLine, lineOf};
 use frames::head::kind_in;
 use records::address::AddressForm;
 use records::position::Answer;
-use records::position::Position;
+use records::position::next_at;
 
 // A framed record with its kind and 0 or the number of the refusal; or the last line.
 pub enum Line {
@@ -43,8 +43,8 @@ pub fn line_at(heads: &[u16; 256], s: &[u8], at: usize) -> Line
     requires { ⌜ now heads ≡ entries ⌝ }
     ensures { λ r. ⌜ r ≡ lineOf (now (s .entry)) (readNext (now (s .entry)) (here AddressForm.Le64 at)) ⌝ }
 {
-    let reading = Position::at(at, AddressForm::Le64).read_next_in(heads, s);
-    let answer = reading.answer;
+    let found = next_at(heads, AddressForm::Le64, s, at);
+    let answer = found.answer;
     match answer {
         Answer::Shown(_, part) => record_line(heads, s, part.start, part.end, 0),
         Answer::RefusedAt(number, part) => record_line(heads, s, part.start, part.end, number),

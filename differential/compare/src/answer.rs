@@ -13,6 +13,10 @@ pub const UNFINISHED: u64 = 4;
 pub struct Position {
     pub at: u64,
     pub form: u64,
+    pub pending: u64,
+    pub start: u64,
+    pub stated: u64,
+    pub filled: u64,
 }
 
 /// `struct aglimtaq_reading`.

@@ -1,17 +1,22 @@
 //! Everything that is compared for a row of records that are written.
 
-use crate::ours;
+use crate::ours::{self, PORTIONS};
 use crate::tally::Tally;
 use compare::answer::{All, Call, FlatRecord, Position};
 use compare::form::Form;
 use compare::given::Given;
 use compare::hex::tokens;
+use compare::random::Random;
 use compare::source::{self, Said};
+use compare::types::MEM_WRITE;
 use compare::writing::{emit, write};
 use std::fmt::{Debug, Formatter};
 use std::hint::black_box;
 
 const LAST: usize = usize::MAX;
+
+/// What a portion or a closing says where no record is open.
+const NONE_OPEN: u64 = 19;
 
 /// How many bytes, which are not lent, lie on each side of the output.
 const AROUND: usize = 16;
@@ -78,6 +83,15 @@ fn write_row(row: &[Given], first: usize, room: usize, tally: &mut Tally) {
     }
 }
 
+/// The bytes in portions, of which the second is empty. The others look random, the same in every run, and do not
+/// disturb the tally's choices.
+fn split(bytes: &[u8], position: usize) -> [&[u8]; PORTIONS] {
+    let mut random = Random::new((position ^ bytes.len()) as u64);
+    let (a, b) = (random.below(bytes.len() + 1), random.below(bytes.len() + 1));
+    let (a, b) = (a.min(b), a.max(b));
+    [&bytes[..a], &[], &bytes[a..b], &bytes[b..]]
+}
+
 struct Output {
     room: usize,
     /// What was before the first position, and then what the original emitted, or document 02 has written.
@@ -117,7 +131,30 @@ impl Output {
         let says = Written { number: said.says, next: next_is, record: given.record, out: &self.must };
         let what = format_args!("write {:?} into {} bytes, position", given.record, self.room);
         let said = Said { says, outside: said.outside };
-        tally.hold(what, position as u64, &said, &ours).then_some((number, next))
+        let equal = tally.hold(what, position as u64, &said, &ours);
+        if equal && given.record.record_type == MEM_WRITE {
+            self.write_portions(given, position, (number, next), tally);
+        }
+        equal.then_some((number, next))
+    }
+
+    /// Writes a MemWrite in portions. One write said `number`, and its end is `end`; no byte was written since.
+    fn write_portions(&self, given: &Given, position: usize, (number, end): (u64, usize), tally: &mut Tally) {
+        // Before the calls, every byte that is to be written has another value.
+        let mut now = self.must.clone();
+        if number == 0 {
+            now[AROUND + position..AROUND + end].iter_mut().for_each(|byte| *byte = !*byte);
+        }
+        let (address, [from, next]) =
+            (given.record.numbers[0], [position, end].map(|at| tally.form().at(at as u64)));
+        let (ours_numbers, ours_next) =
+            ours::write_portions(&mut now, AROUND, from, address, split(&given.bytes, position));
+        let mut numbers = [if number == 0 { 0 } else { NONE_OPEN }; PORTIONS + 2];
+        numbers[0] = number;
+        let ours = InPortions { numbers: ours_numbers, next: ours_next, out: &now };
+        let says = InPortions { numbers, next, out: &self.must };
+        let what = format_args!("write {:?} in portions into {} bytes, position", given.record, self.room);
+        tally.in_portions(what, position as u64, &says, &ours);
     }
 
     /// Writes the whole row by one call. The single calls said `number` after `records` records, which end at `end`; no
@@ -171,6 +208,22 @@ impl Debug for Written<'_> {
     fn fmt(&self, f: &mut Formatter) -> std::fmt::Result {
         let Written { number, next, record, out } = self;
         write!(f, "{number}, next {next:?}, {record:?}, output with {AROUND} bytes around it ")?;
+        f.write_str(&tokens(out))
+    }
+}
+
+/// The state after an opening, portions and a closing.
+#[derive(PartialEq)]
+struct InPortions<'a> {
+    numbers: [u64; PORTIONS + 2],
+    next: Position,
+    out: &'a [u8],
+}
+
+impl Debug for InPortions<'_> {
+    fn fmt(&self, f: &mut Formatter) -> std::fmt::Result {
+        let InPortions { numbers, next, out } = self;
+        write!(f, "{numbers:?}, next {next:?}, output with {AROUND} bytes around it ")?;
         f.write_str(&tokens(out))
     }
 }

@@ -45,8 +45,9 @@ impl Form {
         [emit_le64, emit_be64, emit_le32, emit_be32][self as usize]
     }
 
+    /// A position at which no record is open.
     pub fn at(self, at: u64) -> Position {
-        Position { at, form: self.number() }
+        Position { at, form: self.number(), ..Position::default() }
     }
 
     /// Whether an address or an Unmap length has too many bits for the form.

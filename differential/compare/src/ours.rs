@@ -52,6 +52,16 @@ extern "C" {
         length: usize,
         all: *mut All,
     ) -> u64;
+    fn aglimtaq_begin(out: *mut u8, room: usize, position: *mut Position, address: u64, stated: usize)
+        -> u64;
+    fn aglimtaq_portion(
+        out: *mut u8,
+        room: usize,
+        position: *mut Position,
+        bytes: *const u8,
+        length: usize,
+    ) -> u64;
+    fn aglimtaq_close(out: *mut u8, room: usize, position: *mut Position) -> u64;
 }
 
 /// What every field holds before a call, so that a field which is not written is noticed.
@@ -169,4 +179,29 @@ pub fn write_all(
         aglimtaq_write_all(lent, room, &mut position, from, count, slices, length, &mut all)
     };
     (number, position, all)
+}
+
+/// How many portions `write_portions` takes.
+pub const PORTIONS: usize = 4;
+
+/// What an opening, each portion and a closing say, and the position after them. The output is `out` without `around`
+/// bytes on each side.
+pub fn write_portions(
+    out: &mut [u8],
+    around: usize,
+    mut position: Position,
+    address: u64,
+    portions: [&[u8]; PORTIONS],
+) -> ([u64; PORTIONS + 2], Position) {
+    let (room, stated) = (out.len() - 2 * around, portions.iter().map(|portion| portion.len()).sum());
+    let mut numbers = [UNWRITTEN; PORTIONS + 2];
+    unsafe {
+        let lent = out.as_mut_ptr().add(around);
+        numbers[0] = aglimtaq_begin(lent, room, &mut position, address, stated);
+        for (number, bytes) in numbers[1..].iter_mut().zip(portions) {
+            *number = aglimtaq_portion(lent, room, &mut position, bytes.as_ptr(), bytes.len());
+        }
+        numbers[PORTIONS + 1] = aglimtaq_close(lent, room, &mut position);
+    }
+    (numbers, position)
 }

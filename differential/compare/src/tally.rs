@@ -33,10 +33,11 @@ const ORIGINAL: &str = "the original";
 const DOCUMENT: &str = "document 01";
 const CHANGES: &str = "document 02";
 const SINGLE_CALLS: &str = "single calls";
+const ONE_WRITE: &str = "one write";
 const BACKWARDS: &str = "backwards";
 
 /// The columns of the report between the class and the reasons, and their widths.
-const COLUMNS: [(&str, usize); 11] = [
+const COLUMNS: [(&str, usize); 12] = [
     ("inputs", 10),
     ("inside", 10),
     ("compared", 11),
@@ -44,6 +45,7 @@ const COLUMNS: [(&str, usize); 11] = [
     ("outside", 9),
     ("beyond", 11),
     ("rows", 9),
+    ("portions", 9),
     ("differences", 11),
     ("forward", 10),
     ("with 16", 9),
@@ -66,6 +68,8 @@ pub struct Tally {
     beyond: u64,
     /// Rows of records that ours also wrote by one call, compared with what its single calls left.
     rows: u64,
+    /// MemWrites that ours also wrote in portions, compared with what one write must leave.
+    portions: u64,
     differences: u64,
     /// Records that ours framed backwards, and then read forwards.
     forward: u64,
@@ -187,6 +191,12 @@ impl Tally {
         self.equal(&what, at, SINGLE_CALLS, says, ours);
     }
 
+    /// Compares what an opening, portions and a closing left with what one write must leave.
+    pub fn in_portions<T: PartialEq + Debug>(&mut self, what: impl Display, at: u64, says: &T, ours: &T) {
+        self.portions += 1;
+        self.equal(&what, at, ONE_WRITE, says, ours);
+    }
+
     fn equal<T>(&mut self, what: &dyn Display, at: u64, who: &str, says: &T, ours: &T) -> bool
     where
         T: PartialEq + Debug,
@@ -221,6 +231,7 @@ impl Tally {
         self.outside += other.outside;
         self.beyond += other.beyond;
         self.rows += other.rows;
+        self.portions += other.portions;
         self.differences += other.differences;
         self.forward += other.forward;
         self.with_differing_ends += other.with_differing_ends;
@@ -242,6 +253,7 @@ impl Tally {
             self.outside,
             self.beyond,
             self.rows,
+            self.portions,
             self.differences,
             self.forward,
             self.with_differing_ends,

@@ -25,6 +25,7 @@ const fn new(number: u64, bits: &'static [u32], slice: Slice) -> Type {
 }
 
 pub const MAP: u64 = 5;
+pub const MEM_WRITE: u64 = 27;
 
 pub static TYPES: [Type; 26] = [
     new(1, &[], Slice::Ignored),
@@ -52,7 +53,7 @@ pub static TYPES: [Type; 26] = [
     new(24, &[32], Slice::Contents),
     new(25, &[16], Slice::Contents),
     new(26, &[64], Slice::Contents),
-    new(27, &[64], Slice::Contents),
+    new(MEM_WRITE, &[64], Slice::Contents),
 ];
 
 impl Type {

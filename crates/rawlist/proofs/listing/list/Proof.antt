@@ -5,8 +5,9 @@ use Prim.Native.Nat.{_≤_}
 use native.Mathlib.Omega.{arith}
 use lib.ListN.{length}
 use Rattle.records.specs.declared.address.AddressForm.{AddressForm}
+use Rattle.records.specs.declared.position.Position.{Position}
 use Rattle.records.specs.declared.position.Reading.{Reading}
-use Rattle.records.specs.Positions.{here, readNext}
+use Rattle.records.specs.Positions.{here, pendingOf, visible, readNext}
 use Rattle.rawlist.proofs.StepLaws.{next-within, left, left-less}
 use Rattle.rawlist.proofs.listing.list.Statement.{statement}
 use Rattle.rawlist.proofs.listing.list.Tie as tie
@@ -34,7 +35,7 @@ inside : (c : tie.After-position Inv-loop μ-loop) → c .before .before .next-f
 inside c =
     let s = c .before .before .before .before .before .before .before .args .s .now in
     let l = c .before .before .before .before .before .loop in
-    subst (λ (r : Reading). r .position .at ≤ length s) (sym (c .before .before .next-from .ensures ∙ ap (readNext s) (c .before .before .before .at .ensures))) (next-within s (here AddressForm.Le64 (l .at)) (l .inv))
+    subst (λ (r : Reading). r .position .at ≤ length s) (sym (c .before .before .next-from .ensures ∙ ap (λ (p : Position). readNext (visible s (pendingOf p)) p) (c .before .before .before .at .ensures))) (next-within s (here AddressForm.Le64 (l .at)) (l .inv))
 
 loop-less : tie.Need-loop-less Inv-loop μ-loop
 loop-less c = rw (c .before .before .before .before .loop-test .taken) (left-less _ _ _ (inside c))

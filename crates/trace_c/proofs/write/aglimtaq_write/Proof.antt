@@ -39,6 +39,9 @@ element-copy-out-write-direct c = search needs
 element-copy-out-write-direct-2 : tie.Need-element-copy-out-write-direct-2
 element-copy-out-write-direct-2 c = search needs
 
+element-copy-out-write-direct-3 : tie.Need-element-copy-out-write-direct-3
+element-copy-out-write-direct-3 c = search needs
+
 write-direct-requires : tie.Need-write-direct-requires
 write-direct-requires c κs = search needs
 
@@ -52,7 +55,7 @@ returns : tie.Need-returns
 unfolding given writtenNumber writtenPlace writtenBytes callBy
 returns c =
     let wrote = c .before .before .before in
-    let told = wrote .before .before .before .before .before .before in
+    let told = wrote .before .before .before .before .before .before .before in
     let a = told .before .before .before .before .before .before .args in
     let form = sym (told .before .before .form-of .ensures) ∙ told .form .given .1 in
     rw form (direct-told _ (a .out .now) (a .bytes .now) (a .position .now) _ _ _ _ (wrote .write-direct .ensures) (c .if1 .taken))
@@ -75,8 +78,8 @@ new-of-requires c κs = search needs
 enum-known-new : tie.Need-enum-known-new
 enum-known-new c = search needs
 
-at-requires : tie.Need-at-requires
-at-requires c κs = search needs
+place-of-requires : tie.Need-place-of-requires
+place-of-requires c κs = search needs
 
 write-requires : tie.Need-write-requires
 write-requires c κs = search needs
@@ -100,15 +103,16 @@ returns-2 : tie.Need-returns-2
 unfolding given writtenNumber writtenPlace writtenBytes numberAt placeAt bytesAt callAs callBy
 returns-2 c =
     let wrote = c .before .before .before .before in
-    let asked = wrote .before .before .before .before in
-    let direct = wrote .before .before .before .before .before .before .before .before .before .before .before .before .before .before in
-    let told = direct .before .before .before .before .before .before in
+    let asked = wrote .before .before .before .before .before in
+    let missed = asked .before .before .before .before .before .before .before in
+    let direct = missed .before .before .before in
+    let told = direct .before .before .before .before .before .before .before in
     let a = told .before .before .before .before .before .before .args in
     let form = sym (told .before .before .form-of .ensures) ∙ told .form .given .1 in
     let is = sym (asked .before .before .new-of .ensures) ∙ asked .new .given .1 in
     let said = wrote .write .ensures in
-    let same = direct-left _ (a .out .now) (a .bytes .now) (a .position .now) _ _ (direct .write-direct .ensures) (wrote .before .before .before .before .before .before .before .before .before .before .before .if1 .left) in
-    let says = of-same (a .out .now) _ _ _ _ same (wrote .before .before .at2 .ensures) (said .0, said .1 .0) in (
+    let same = direct-left _ (a .out .now) (a .bytes .now) (a .position .now) _ _ (direct .write-direct .ensures) (missed .if1 .left) in
+    let says = of-same (a .out .now) _ _ _ _ same (wrote .before .before .place-of .ensures) (said .0, said .1 .0) in (
       rw (form, is) (c .number-of .ensures ∙ ap (λ (w : Written). verdictNumber (w .verdict)) (says .0)),
       (rw (form, is) (ap (λ (w : Written). movedTo (a .position .now) (w .position .at)) (says .0)), (rw (form, is) (says .1), rw (form, is) (also (said .1 .1) none))),
     )
@@ -119,12 +123,13 @@ same-length-3 c = search needs
 returns-3 : tie.Need-returns-3
 unfolding given writtenNumber writtenPlace writtenBytes numberAt placeAt bytesAt callAs callBy
 returns-3 c =
-    let direct = c .before .before .before .before .before .before .before .before .before .before in
-    let told = direct .before .before .before .before .before .before in
+    let missed = c .before .before .before .before .before .before .before in
+    let direct = missed .before .before .before in
+    let told = direct .before .before .before .before .before .before .before in
     let a = told .before .before .before .before .before .before .args in
     let form = sym (told .before .before .form-of .ensures) ∙ told .form .given .1 in
     let is = sym (c .before .before .new-of .ensures) ∙ c .enum-told .given .1 in
-    let same = direct-left _ (a .out .now) (a .bytes .now) (a .position .now) _ _ (direct .write-direct .ensures) (c .before .before .before .before .before .before .before .if1 .left) in
+    let same = direct-left _ (a .out .now) (a .bytes .now) (a .position .now) _ _ (direct .write-direct .ensures) (missed .if1 .left) in
     (rw (form, is), (rw (form, is), (rw (form, is) same, rw (form, is) none)))
 
 returns-4 : tie.Need-returns-4
@@ -143,6 +148,7 @@ aglimtaq-write-spec =
     element-copy-out-at
     element-copy-out-write-direct
     element-copy-out-write-direct-2
+    element-copy-out-write-direct-3
     write-direct-requires
     element-write-position
     same-length
@@ -153,7 +159,7 @@ aglimtaq-write-spec =
     element-copy-out-new-of-4
     new-of-requires
     enum-known-new
-    at-requires
+    place-of-requires
     write-requires
     element-write-position-2
     number-of-requires

@@ -1,0 +1,66 @@
+-- `trace_c::open_write::aglimtaq_portion` meets its contract: what a portion says and leaves, as numbers; or that the form is none of the four.
+-- Assumes nothing.
+use mathlib.Core.Path.{sym, _∙_}
+use borrow.Author.Needs.{needs}
+use lib.ListN.{length}
+use Rattle.records.specs.Openings.{portioned, bytesPortioned}
+use Rattle.trace_c.proofs.OpeningLaws.{called-told, bytes-told, none-told, none-bytes}
+use Rattle.trace_c.proofs.open_write.aglimtaq_portion.Statement.{statement}
+use Rattle.trace_c.proofs.open_write.aglimtaq_portion.Tie as tie
+
+array-read-form-of : tie.Need-array-read-form-of
+array-read-form-of c = search needs
+
+form-of-requires : tie.Need-form-of-requires
+form-of-requires c κs = search needs
+
+enum-known-form : tie.Need-enum-known-form
+enum-known-form c = search needs
+
+place-of-requires : tie.Need-place-of-requires
+place-of-requires c κs = search needs
+
+portion-requires : tie.Need-portion-requires
+portion-requires c κs = search needs
+
+put-place-requires : tie.Need-put-place-requires
+put-place-requires c κs = search needs
+
+enum-told : tie.Need-enum-told
+enum-told c = search needs
+
+same-length : tie.Need-same-length
+same-length c = search needs
+
+returns : tie.Need-returns
+returns c =
+    let made = c .before .before .before .before in
+    let told = made .before .before .before .before in
+    let a = told .before .before .before .before .before .before .args in
+    let form = sym (told .before .before .form-of .ensures) ∙ told .form .given .1 in
+    let place = made .before .before .place-of .ensures in
+    let said = made .portion .ensures in
+    let is = called-told (a .position .now) _ form place (λ q. portioned (length (a .out .now)) q (length (a .bytes .now))) (said .0) (c .put-place .ensures) in
+    (is .0, (is .1, bytes-told (a .position .now) _ form place (λ q. bytesPortioned (a .out .now) q (a .bytes .now)) (a .out .now) (said .1)))
+
+returns-2 : tie.Need-returns-2
+returns-2 c =
+    let a = c .before .before .before .before .before .before .args in
+    let form = sym (c .before .before .form-of .ensures) ∙ c .enum-told .given .1 in
+    let is = none-told (a .position .now) form (λ q. portioned (length (a .out .now)) q (length (a .bytes .now))) in
+    (is .0, (is .1, none-bytes (a .position .now) form (λ q. bytesPortioned (a .out .now) q (a .bytes .now)) (a .out .now)))
+
+pub aglimtaq-portion-spec : {M : Type 1} → statement M
+aglimtaq-portion-spec =
+    tie.close
+    (tie.spec
+    array-read-form-of
+    form-of-requires
+    enum-known-form
+    place-of-requires
+    portion-requires
+    put-place-requires
+    enum-told
+    same-length
+    returns
+    returns-2)
