@@ -132,6 +132,7 @@ fn start(out: &mut [u8]) -> Written {
     load_r1(out, w)
 }
 
+// The three calls that set the instruments up.
 fn calls(out: &mut [u8], w: Written) -> Written {
     let w = lcd_init(out, w);
     let w = fuel(out, w);

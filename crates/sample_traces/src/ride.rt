@@ -160,6 +160,7 @@ fn interrupts(out: &mut [u8], w: Written) -> Written {
     copied(out, w)
 }
 
+// The drawing, from its call to its return.
 fn draw(out: &mut [u8], w: Written) -> Written {
     let w = drawing(out, w);
     drawn(out, w)
