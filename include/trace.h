@@ -5,10 +5,11 @@
  *
  * - It ends.
  * - It reads the bytes that it is lent and no others.
- * - It writes what its last argument points to, if that is a pointer: all of it at every call, and nothing else.
- *   Some write more: a walk writes its last three arguments, a call that takes a position moves it, aglimtaq_write
- *   writes a record into `out`, aglimtaq_write_all writes a list of records into it, and aglimtaq_begin,
- *   aglimtaq_portion and aglimtaq_close write a part of a record into it.
+ * - It writes what its last argument points to, if that is a pointer, but not one to const: all of it at every call,
+ *   and nothing else. Some write more: a walk writes its last three arguments, a call that takes a position moves it,
+ *   aglimtaq_write, aglimtaq_house_write and aglimtaq_house_write_gauge write a record into `out`, aglimtaq_write_all
+ *   writes a list of records into it, and aglimtaq_begin, aglimtaq_portion and aglimtaq_close write a part of a record
+ *   into it.
  * - Where a form is none of the four, it writes nothing but that refusal, into a reading or the end of a walk.
  *
  * A function allocates nothing and keeps nothing. It may run in several threads at once, each with structs
@@ -77,6 +78,7 @@ enum aglimtaq_refusal {
     AGLIMTAQ_NO_START = 6,      /* backwards only: the trailer leads to before the first byte */
     AGLIMTAQ_UNKNOWN_KIND = 7,  /* a kind of record that this format does not have */
     AGLIMTAQ_ENDS_DIFFER = 16,  /* backwards only: the record that the trailer leads to does not end at the position */
+    AGLIMTAQ_NOT_A_GAUGE = 15,  /* house calls only: bytes after Meta tag 200 that are not a house reading */
     /* The caller's mistakes. */
     AGLIMTAQ_BEYOND_END = 8,    /* the position lies beyond the end of the bytes */
     AGLIMTAQ_NO_ROOM = 9,       /* the output is too small for the record */
@@ -121,7 +123,11 @@ enum aglimtaq_type {
     AGLIMTAQ_REG_WRITE = 24,               /* register; contents */
     AGLIMTAQ_REG_WRITE_NATIVE = 25,        /* native register; contents */
     AGLIMTAQ_MEM_READ = 26,                /* address; contents */
-    AGLIMTAQ_MEM_WRITE = 27                /* address; contents */
+    AGLIMTAQ_MEM_WRITE = 27,               /* address; contents */
+    /* House readings: the house calls alone show and take them. */
+    AGLIMTAQ_FUEL = 28,                    /* tenths of a litre, tick */
+    AGLIMTAQ_DISTANCE_LEFT = 29,           /* kilometres, tick */
+    AGLIMTAQ_RESERVE_LAMP = 30             /* 0 off or 1 on, tick */
 };
 
 /* What a reading gives. A field that an answer does not use is 0. */
@@ -215,7 +221,7 @@ uint64_t aglimtaq_is_utf8(const uint8_t *bytes, size_t length);
 
 /* A record to be written. Numbers that its type does not have are ignored. */
 struct aglimtaq_record {
-    uint64_t type;       /* enum aglimtaq_type, but not NO_TYPE and not ARCH */
+    uint64_t type;       /* enum aglimtaq_type; aglimtaq_write takes all but NO_TYPE, ARCH and the house readings */
     uint64_t numbers[3]; /* its numbers, in order */
 };
 
@@ -298,6 +304,41 @@ uint64_t aglimtaq_close(uint8_t *out, size_t room, struct aglimtaq_position *pos
 /* Gives the open record up: `at` becomes its start, and no record is open. What was written of it stays in `out`.
  * Refusals: NOT_A_FORM, NONE_OPEN. */
 uint64_t aglimtaq_abandon(struct aglimtaq_position *position);
+
+/* The house family: what the gauges of a motorcycle show, each reading a Meta of tag 200. After the tag come a
+ * sub-kind, a value and a tick, least significant byte first in every form:
+ *
+ *   type            sub-kind   value                                tick
+ *   FUEL            0          two bytes, tenths of a litre         eight bytes
+ *   DISTANCE_LEFT   1          two bytes, kilometres                eight bytes
+ *   RESERVE_LAMP    2          one byte, 0 for off or 1 for on      eight bytes
+ *
+ * The other calls do not know the family: aglimtaq_read_next goes on showing UNKNOWN_META with tag 200.
+ *
+ * Reads as aglimtaq_read_next does, but shows a record of the family by its fields: its type, and in `numbers` its
+ * value and its tick. If its bytes after the tag are no house reading, the answer is REFUSED_AT with NOT_A_GAUGE, and
+ * the position passes the record. The reasons are: nothing after the tag; a sub-kind that is none of 0, 1, 2; a wrong
+ * size, too short or too long; a lamp byte above 1. Everything else, also the position, is as aglimtaq_read_next gives
+ * it. */
+void aglimtaq_house_next(const uint8_t *bytes, size_t length, struct aglimtaq_position *position,
+                         struct aglimtaq_reading *reading);
+
+/* The same backwards: as aglimtaq_read_previous, but for the records of the family. */
+void aglimtaq_house_previous(const uint8_t *bytes, size_t length, struct aglimtaq_position *position,
+                             struct aglimtaq_reading *reading);
+
+/* Writes a record of the family at the position in `out`, with these bytes after its tag. Returns 0, and the position
+ * becomes that after the record. Or returns why it is refused; then the position is kept, and no byte of `out` is
+ * altered. Refusals, in this order: NOT_A_FORM; RECORD_OPEN; BEYOND_END; NOT_A_GAUGE, where the bytes are no house
+ * reading; LONG_CONTENT; NO_ROOM. */
+uint64_t aglimtaq_house_write(uint8_t *out, size_t room, struct aglimtaq_position *position, const uint8_t *bytes,
+                              size_t length);
+
+/* Writes a house reading by its fields: numbers[0] is its value, numbers[1] its tick, and numbers[2] is ignored. As
+ * aglimtaq_house_write of its bytes; and NOT_A_RECORD, after NOT_A_FORM and before the other refusals, where `type` is
+ * none of the three, or the value is above 65,535, or above 255 for a lamp. A lamp from 2 to 255 is NOT_A_GAUGE. */
+uint64_t aglimtaq_house_write_gauge(uint8_t *out, size_t room, struct aglimtaq_position *position,
+                                    const struct aglimtaq_record *gauge);
 
 #ifdef __cplusplus
 }

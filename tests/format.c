@@ -39,6 +39,16 @@ static void example(const char *name, uint64_t type, uint64_t first, uint64_t se
     print_bytes(name, put(0, type, first, second, bytes, length));
 }
 
+/* A house reading at tick 258. */
+static void gauge(const char *name, uint64_t type, uint64_t value)
+{
+    const struct aglimtaq_record record = {type, {value, 258, 0}};
+    struct aglimtaq_position position = AGLIMTAQ_AT(0, AGLIMTAQ_LE64);
+    if (aglimtaq_house_write_gauge(out, sizeof out, &position, &record) != 0)
+        printf("type %llu refused\n", (unsigned long long)type);
+    print_bytes(name, position.at);
+}
+
 /* An Instruction whose content has `length` bytes, eight of them the address. */
 static void content_of(const char *name, size_t length)
 {
@@ -74,6 +84,9 @@ int main(void)
     example("register-name-map", AGLIMTAQ_REGISTER_NAME_MAP, 2, 0, "\0\0\2r0\1\0\2pc", 10);
     example("reg-write-native", AGLIMTAQ_REG_WRITE_NATIVE, 1, 0, "\2\x10\0\0", 4);
     example("reg-write", AGLIMTAQ_REG_WRITE, 1, 0, "\2\x10\0\0", 4);
+    gauge("fuel", AGLIMTAQ_FUEL, 98);
+    gauge("distance-left", AGLIMTAQ_DISTANCE_LEFT, 196);
+    gauge("reserve-lamp", AGLIMTAQ_RESERVE_LAMP, 1);
     content_of("content-253", 253);
     content_of("content-254", 254);
     content_of("content-65530", 65530);

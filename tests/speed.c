@@ -116,6 +116,18 @@ __attribute__((noinline)) int work_f(void)
     return shown == RECORDS && r.answer == AGLIMTAQ_FINISHED;
 }
 
+__attribute__((noinline)) int work_i(void)
+{
+    struct aglimtaq_position position = AGLIMTAQ_AT(0, form);
+    struct aglimtaq_reading r;
+    int shown = -1;
+    do {
+        aglimtaq_house_next(out, length, &position, &r);
+        shown++;
+    } while (r.answer == AGLIMTAQ_SHOWN);
+    return shown == RECORDS && r.answer == AGLIMTAQ_FINISHED;
+}
+
 __attribute__((noinline)) int work_g(void)
 {
     struct aglimtaq_position position = AGLIMTAQ_AT(0, form);
@@ -150,7 +162,7 @@ int main(int argc, char **argv)
         list(i);
     }
     if (!work_c() || !work_a() || !work_b() || !work_d() || !work_e() || !work_e_few() || !work_f() ||
-        !same_by_list()) {
+        !work_i() || !same_by_list()) {
         fprintf(stderr, "the records are not all written, read or counted\n");
         return 1;
     }

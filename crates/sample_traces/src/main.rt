@@ -3,6 +3,7 @@
 // and nothing where a record was refused.
 mod begin;
 mod boot;
+mod curve;
 mod damaged;
 mod foreign;
 mod put;

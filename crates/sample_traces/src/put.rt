@@ -1,5 +1,7 @@
 // Records put one after the other, each at the position that the call before handed back. After a refusal
 // nothing is put, and the refusal is handed on.
+use house::gauge::Gauge;
+use house::write::write_gauge;
 use numbers::copy::copy;
 use records::address::AddressForm;
 use records::judge::Verdict;
@@ -31,6 +33,16 @@ pub(crate) fn put(out: &mut [u8], before: Written, new: NewRecord, bytes: &[u8])
 // A Meta with its name or contents, if it has any.
 pub(crate) fn put_meta(out: &mut [u8], before: Written, new: NewMeta, bytes: &[u8]) -> Written {
     put(out, before, NewRecord::Meta(new), bytes)
+}
+
+// A house reading.
+pub(crate) fn put_gauge(out: &mut [u8], before: Written, gauge: Gauge) -> Written {
+    let position = before.position;
+    let verdict = before.verdict;
+    match verdict {
+        Verdict::Accepted => write_gauge(position, out, gauge),
+        Verdict::Refused(_) => before,
+    }
 }
 
 fn copied(out: &mut [u8], at: usize, s: &[u8]) -> Written {

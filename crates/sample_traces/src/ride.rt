@@ -1,6 +1,7 @@
-// A moment of a ride: the timer's tick reads the fuel sensor, a message of the CAN bus brings the speed,
-// the display is drawn anew.
+// A ride. In its first moment the timer's tick reads the fuel sensor, a message of the CAN bus brings the speed, and
+// the display is drawn anew. Then there is what the gauges show on the way.
 use crate::begin::begin;
+use crate::curve::curve;
 use crate::put::put;
 use crate::put::put_meta;
 use records::new_record::NewFileMeta;
@@ -131,16 +132,16 @@ fn drawn(out: &mut [u8], w: Written) -> Written {
     put_meta(out, w, end, b"")
 }
 
-// What a later recorder may write: a Meta of tag 200, which this format does not have. Then the room for
+// What a later recorder may write: a Meta of tag 201, which this format does not have. Then the room for
 // messages and the display buffer are given back.
 fn last(out: &mut [u8], w: Written) -> Written {
-    let w = put_meta(out, w, NewMeta::Unknown { tag: 200 }, b"\x01\x02\x03");
+    let w = put_meta(out, w, NewMeta::Unknown { tag: 201 }, b"\x01\x02\x03");
     let freed = NewMeta::MemoryFreed {
         address: LARGER,
         size: 64,
     };
     let w = put_meta(out, w, freed, b"");
-    let w = put_meta(out, w, NewMeta::InstructionCount { tick: 1001000 }, b"");
+    let w = put_meta(out, w, NewMeta::InstructionCount { tick: 9018000 }, b"");
     let display = NewRecord::Unmap {
         base: DISPLAY,
         length: 256,
@@ -166,9 +167,15 @@ fn draw(out: &mut [u8], w: Written) -> Written {
     drawn(out, w)
 }
 
-pub(crate) fn ride(out: &mut [u8]) -> Written {
+// The ride's first moment, up to the end of the drawing.
+fn moment(out: &mut [u8]) -> Written {
     let w = start(out);
     let w = interrupts(out, w);
-    let w = draw(out, w);
+    draw(out, w)
+}
+
+pub(crate) fn ride(out: &mut [u8]) -> Written {
+    let w = moment(out);
+    let w = curve(out, w);
     last(out, w)
 }

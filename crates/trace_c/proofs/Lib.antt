@@ -4,3 +4,4 @@ mod DirectLaws
 mod OpeningLaws
 pub mod Theorem
 pub mod Examples
+pub mod GaugeExamples

@@ -7,3 +7,4 @@ pub mod Writing
 pub mod Openings
 pub mod Direct
 pub mod Calls
+pub mod Gauges

@@ -36,3 +36,13 @@ number regWrite = 24
 number regWriteNative = 25
 number memRead = 26
 number memWrite = 27
+
+-- the house readings, which the house functions alone show and take
+abbrev pub fuel : ℕ
+fuel = 28
+
+abbrev pub distanceLeft : ℕ
+distanceLeft = 29
+
+abbrev pub reserveLamp : ℕ
+reserveLamp = 30

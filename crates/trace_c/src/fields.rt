@@ -57,7 +57,7 @@ fn with_bytes(type_number: u64, a: u64, part: Part) -> Fields
     }
 }
 
-fn numbers(type_number: u64, a: u64, b: u64, c: u64) -> Fields
+pub(crate) fn numbers(type_number: u64, a: u64, b: u64, c: u64) -> Fields
     ensures { λ r. ⌜ r ≡ fields «type_number» a b c none ⌝ }
 {
     Fields {

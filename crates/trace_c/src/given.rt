@@ -62,13 +62,13 @@ fn fits(t: u64, a: u64, b: u64, c: u64) -> bool
 }
 
 // The low 8, 16 or 32 bits of a number.
-fn low8(n: u64) -> u8
+pub(crate) fn low8(n: u64) -> u8
     ensures { λ r. ⌜ r ≡ n % 2 ^ 8 ⌝ }
 {
     (n % 256) as u8
 }
 
-fn low16(n: u64) -> u16
+pub(crate) fn low16(n: u64) -> u16
     ensures { λ r. ⌜ r ≡ n % 2 ^ 16 ⌝ }
 {
     (n % 65536) as u16

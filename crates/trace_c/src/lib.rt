@@ -3,6 +3,7 @@
 mod direct;
 pub mod fields;
 pub mod form;
+pub mod gauge;
 pub mod given;
 mod open_write;
 mod place;
@@ -13,6 +14,10 @@ mod whole;
 mod write;
 pub mod write_all;
 
+pub use gauge::aglimtaq_house_next;
+pub use gauge::aglimtaq_house_previous;
+pub use gauge::aglimtaq_house_write;
+pub use gauge::aglimtaq_house_write_gauge;
 pub use open_write::aglimtaq_abandon;
 pub use open_write::aglimtaq_begin;
 pub use open_write::aglimtaq_close;

@@ -53,3 +53,10 @@ pub(crate) const REG_WRITE_NATIVE: u64 = 25;
 pub(crate) const MEM_READ: u64 = 26;
 
 pub(crate) const MEM_WRITE: u64 = 27;
+
+// The house readings, which the house functions alone show and take.
+pub(crate) const FUEL: u64 = 28;
+
+pub(crate) const DISTANCE_LEFT: u64 = 29;
+
+pub(crate) const RESERVE_LAMP: u64 = 30;

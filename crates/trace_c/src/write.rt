@@ -14,7 +14,7 @@ use crate::given::new_of;
 use crate::place::place_of;
 use records::judge::Verdict;
 
-fn number_of(verdict: Verdict) -> u64
+pub(crate) fn number_of(verdict: Verdict) -> u64
     ensures { λ r. ⌜ r ≡ verdictNumber verdict ⌝ }
 {
     match verdict {
