@@ -8,3 +8,4 @@ pub mod Openings
 pub mod Direct
 pub mod Calls
 pub mod Gauges
+pub mod InnerGauges

@@ -1,31 +1,35 @@
-// The house family of Meta tag 200, read and written by numbers and byte slices.
+// The house family of Meta tag 200, read and written by numbers and byte slices: over the plain calls, so that these stay
+// as fast as they are. A second caller of the functions beneath would keep the compiler from taking them in.
 ghost use mathlib.Core.Path.{_≡_};
 ghost use lib.ListN.{length};
 ghost use Rattle.house.specs.House.{houseNext, housePrevious};
-ghost use Rattle.trace_c.specs.Forms.{formIn};
-ghost use Rattle.trace_c.specs.Gauges.{gaugeFields, flatHouse, houseReadingBy, housePlaceBy};
-ghost use Rattle.trace_c.specs.Gauges.{houseNumber, houseLeft, houseOut};
-ghost use Rattle.trace_c.specs.Gauges.{gaugeFits, gaugeBuilt, gaugeGiven, gaugeFrom, gaugeNumber, gaugeLeft, gaugeOut};
+ghost use Rattle.trace_c.specs.Forms.{formOf, formIn};
+ghost use Rattle.trace_c.specs.Gauges.{gaugeFields, houseReadingBy, housePlaceBy, houseNumber, houseLeft, houseOut};
+ghost use Rattle.trace_c.specs.Gauges.{gaugeFits, gaugeBuilt, gaugeGiven, gaugeFrom, noGauge, gaugeNumber, gaugeLeft, gaugeOut};
+ghost use Rattle.trace_c.specs.InnerGauges.{toldOf, turnedAway};
 use crate::fields::Fields;
 use crate::fields::numbers;
-use crate::fields::of_answer;
 use crate::form::Formed;
 use crate::form::NOT_A_FORM;
 use crate::form::form_of;
 use crate::given::low8;
 use crate::given::low16;
 use crate::place::place_of;
-use crate::read::NO_FORM;
+use crate::read::aglimtaq_read_next;
+use crate::read::aglimtaq_read_previous;
 use crate::types::DISTANCE_LEFT;
 use crate::types::FUEL;
 use crate::types::RESERVE_LAMP;
+use crate::types::UNKNOWN_META;
+use crate::write::aglimtaq_write;
 use crate::write::number_of;
+use frames::read::Part;
 use house::gauge::Gauge;
-use house::read::HouseAnswer;
-use house::read::read_next;
-use house::read::read_previous;
-use house::write::write;
-use house::write::write_gauge;
+use house::gauge::Parsed;
+use house::gauge::gauge_of;
+use house::gauge::put_gauge;
+use house::write::refused;
+use records::bytes::bytes as lent_bytes;
 
 // A house reading: its type's number, its value and its tick.
 fn of_gauge(gauge: Gauge) -> Fields
@@ -43,28 +47,28 @@ fn of_gauge(gauge: Gauge) -> Fields
     }
 }
 
-// The numbers of struct aglimtaq_reading, in order.
-pub fn of_house(answer: HouseAnswer) -> [u64; 10]
-    ensures { λ r. ⌜ r ≡ flatHouse answer ⌝ }
+// Of a reading that shows a Meta of tag 200, its fields or the refusal in place of the unknown Meta.
+fn tell(bytes: &[u8], reading: &mut [u64; 10])
+    ensures { λ _. ⌜ now (reading .exit) ≡ toldOf (now (bytes .entry)) (now (reading .entry)) ⌝ }
 {
-    match answer {
-        HouseAnswer::Fields(gauge, part) => {
+    if reading[4] != UNKNOWN_META {
+        return;
+    }
+    if reading[5] != 200 {
+        return;
+    }
+    let start = reading[2];
+    let end = reading[3];
+    let part = Part {
+        start: reading[8] as usize,
+        end: reading[9] as usize,
+    };
+    match gauge_of(lent_bytes(bytes, part)) {
+        Parsed::Shown(gauge) => {
             let f = of_gauge(gauge);
-            let own = f.part;
-            [
-                0,
-                0,
-                part.start as u64,
-                part.end as u64,
-                f.type_number,
-                f.a,
-                f.b,
-                f.c,
-                own.start as u64,
-                own.end as u64,
-            ]
+            *reading = [0, 0, start, end, f.type_number, f.a, f.b, 0, 0, 0];
         }
-        HouseAnswer::Other(answer) => of_answer(answer),
+        Parsed::Refused(number) => *reading = [1, number as u64, start, end, 0, 0, 0, 0, 0, 0],
     }
 }
 
@@ -77,17 +81,8 @@ pub extern "C" fn aglimtaq_house_next(
     ensures { λ _. ⌜ now (position .exit) ≡ housePlaceBy (houseNext (now (bytes .entry))) (now (position .entry)) (formIn (now (position .entry))) ⌝ }
     ensures { λ _. ⌜ now (reading .exit) ≡ houseReadingBy (houseNext (now (bytes .entry))) (now (position .entry)) (formIn (now (position .entry))) ⌝ }
 {
-    let numbers = *position;
-    match form_of(numbers[1]) {
-        Formed::Form(form) => {
-            let next = read_next(place_of(numbers, form), bytes);
-            let place = next.position;
-            let answer = next.answer;
-            position[0] = place.at as u64;
-            *reading = of_house(answer);
-        }
-        Formed::Nothing => *reading = NO_FORM,
-    }
+    aglimtaq_read_next(bytes, position, reading);
+    tell(bytes, reading);
 }
 
 #[no_mangle]
@@ -99,16 +94,21 @@ pub extern "C" fn aglimtaq_house_previous(
     ensures { λ _. ⌜ now (position .exit) ≡ housePlaceBy (housePrevious (now (bytes .entry))) (now (position .entry)) (formIn (now (position .entry))) ⌝ }
     ensures { λ _. ⌜ now (reading .exit) ≡ houseReadingBy (housePrevious (now (bytes .entry))) (now (position .entry)) (formIn (now (position .entry))) ⌝ }
 {
-    let numbers = *position;
+    aglimtaq_read_previous(bytes, position, reading);
+    tell(bytes, reading);
+}
+
+// What a house write of bytes that are no house reading returns.
+fn turned_away(numbers: [u64; 6], lent: usize, number: u8) -> u64
+    ensures { λ r. ⌜ r ≡ turnedAway lent numbers number (formIn numbers) ⌝ }
+{
     match form_of(numbers[1]) {
         Formed::Form(form) => {
-            let previous = read_previous(place_of(numbers, form), bytes);
-            let start = previous.position;
-            let answer = previous.answer;
-            position[0] = start.at as u64;
-            *reading = of_house(answer);
+            let written = refused(place_of(numbers, form), lent, number);
+            let verdict = written.verdict;
+            number_of(verdict)
         }
-        Formed::Nothing => *reading = NO_FORM,
+        Formed::Nothing => NOT_A_FORM,
     }
 }
 
@@ -118,16 +118,12 @@ pub extern "C" fn aglimtaq_house_write(out: &mut [u8], position: &mut [u64; 6], 
     ensures { λ _. ⌜ now (position .exit) ≡ houseLeft (length (now (out .entry))) (now (position .entry)) (now (bytes .entry)) (formIn (now (position .entry))) ⌝ }
     ensures { λ _. ⌜ now (out .exit) ≡ houseOut (now (out .entry)) (now (position .entry)) (now (bytes .entry)) (formIn (now (position .entry))) ⌝ }
 {
-    let numbers = *position;
-    match form_of(numbers[1]) {
-        Formed::Form(form) => {
-            let written = write(place_of(numbers, form), out, bytes);
-            let place = written.position;
-            let verdict = written.verdict;
-            position[0] = place.at as u64;
-            number_of(verdict)
+    match gauge_of(bytes) {
+        Parsed::Shown(_) => {
+            let record = [UNKNOWN_META, 200, 0, 0];
+            aglimtaq_write(out, position, &record, bytes)
         }
-        Formed::Nothing => NOT_A_FORM,
+        Parsed::Refused(number) => turned_away(*position, out.len(), number),
     }
 }
 
@@ -180,6 +176,16 @@ pub fn gauge_given(t: u64, value: u64, tick: u64) -> GivenGauge
     }
 }
 
+// What is returned where no house reading was given, by the number of the form.
+fn no_gauge(form: u64) -> u64
+    ensures { λ r. ⌜ r ≡ noGauge (formOf form) ⌝ }
+{
+    match form_of(form) {
+        Formed::Form(_) => 256,
+        Formed::Nothing => NOT_A_FORM,
+    }
+}
+
 #[no_mangle]
 pub extern "C" fn aglimtaq_house_write_gauge(
     out: &mut [u8],
@@ -190,18 +196,12 @@ pub extern "C" fn aglimtaq_house_write_gauge(
     ensures { λ _. ⌜ now (position .exit) ≡ gaugeLeft (length (now (out .entry))) (now (position .entry)) (gaugeFrom (now (gauge .entry))) (formIn (now (position .entry))) ⌝ }
     ensures { λ _. ⌜ now (out .exit) ≡ gaugeOut (now (out .entry)) (now (position .entry)) (gaugeFrom (now (gauge .entry))) (formIn (now (position .entry))) ⌝ }
 {
-    let numbers = *position;
-    match form_of(numbers[1]) {
-        Formed::Form(form) => match gauge_given(gauge[0], gauge[1], gauge[2]) {
-            GivenGauge::Gauge(given) => {
-                let written = write_gauge(place_of(numbers, form), out, given);
-                let place = written.position;
-                let verdict = written.verdict;
-                position[0] = place.at as u64;
-                number_of(verdict)
-            }
-            GivenGauge::Nothing => 256,
-        },
-        Formed::Nothing => NOT_A_FORM,
+    match gauge_given(gauge[0], gauge[1], gauge[2]) {
+        GivenGauge::Gauge(given) => {
+            let mut bytes = [0u8; 11];
+            let n = put_gauge(&mut bytes, given);
+            aglimtaq_house_write(out, position, &bytes[..n])
+        }
+        GivenGauge::Nothing => no_gauge(position[1]),
     }
 }

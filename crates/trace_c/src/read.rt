@@ -20,7 +20,7 @@ use records::registers::Names;
 use records::registers::NextName;
 
 // A reading refused for its form.
-pub(crate) const NO_FORM: [u64; 10] = [2, NOT_A_FORM, 0, 0, 0, 0, 0, 0, 0, 0];
+const NO_FORM: [u64; 10] = [2, NOT_A_FORM, 0, 0, 0, 0, 0, 0, 0, 0];
 
 #[no_mangle]
 pub extern "C" fn aglimtaq_read_next(bytes: &[u8], position: &mut [u64; 6], reading: &mut [u64; 10])

@@ -1,65 +1,26 @@
--- `trace_c::gauge::aglimtaq_house_previous` meets its contract: what the house reader gives, as numbers; or that the form is none of the four.
+-- `trace_c::gauge::aglimtaq_house_previous` meets its contract: the plain reading, with a Meta of tag 200 told anew.
 -- Assumes nothing.
-use mathlib.Core.Path.{sym, ap, _∙_}
+use mathlib.Core.Path.{ap, _∙_}
+use Rattle.trace_c.specs.Forms.{formIn}
+use Rattle.trace_c.specs.InnerGauges.{toldOf}
+use Rattle.trace_c.proofs.GaugeLaws.{previous-told}
 use borrow.Author.Needs.{needs}
-use Rattle.house.specs.declared.read.HouseReading.{HouseReading}
-use Rattle.house.specs.House.{housePrevious}
-use Rattle.trace_c.specs.Forms.{movedTo}
-use Rattle.trace_c.specs.Gauges.{flatHouse, housePlaceBy, houseReadingBy}
 use Rattle.trace_c.proofs.gauge.aglimtaq_house_previous.Statement.{statement}
 use Rattle.trace_c.proofs.gauge.aglimtaq_house_previous.Tie as tie
 
-array-read-form-of : tie.Need-array-read-form-of
-array-read-form-of c = search needs
+aglimtaq-read-previous-requires : tie.Need-aglimtaq-read-previous-requires
+aglimtaq-read-previous-requires c κs = search needs
 
-form-of-requires : tie.Need-form-of-requires
-form-of-requires c κs = search needs
-
-enum-known-form : tie.Need-enum-known-form
-enum-known-form c = search needs
-
-place-of-requires : tie.Need-place-of-requires
-place-of-requires c κs = search needs
-
-read-previous-requires : tie.Need-read-previous-requires
-read-previous-requires c κs = search needs
-
-element-write-position : tie.Need-element-write-position
-element-write-position c = search needs
-
-of-house-requires : tie.Need-of-house-requires
-of-house-requires c κs = search needs
-
-enum-told : tie.Need-enum-told
-enum-told c = search needs
+tell-requires : tie.Need-tell-requires
+tell-requires c κs = search needs
 
 returns : tie.Need-returns
-unfolding housePlaceBy houseReadingBy
 returns c =
-    let read = c .before .before in
-    let told = read .before .before .before in
-    let a = told .before .before .before .before .before .args in
-    let is = sym (told .before .before .form-of .ensures) ∙ told .form .given .1 in
-    let said = read .read-previous .ensures ∙ ap (housePrevious (a .bytes .now)) (read .before .place-of .ensures) in
-    (rw is (ap (λ (r : HouseReading). movedTo (a .position .now) (r .position .at)) said), rw is (c .of-house .ensures ∙ ap (λ (r : HouseReading). flatHouse (r .answer)) said))
-
-returns-2 : tie.Need-returns-2
-unfolding housePlaceBy houseReadingBy
-returns-2 c =
-    let is = sym (c .before .before .form-of .ensures) ∙ c .enum-told .given .1 in
-    (rw is, rw is)
+    let read = c .before .before .aglimtaq-read-previous .ensures in
+    let a = c .before .before .before .before .before .before .args in
+    let law = previous-told (a .bytes .now) (a .position .now) (formIn (a .position .now)) in
+    (read .0 ∙ law .0, c .tell .ensures ∙ ap (toldOf (a .bytes .now)) (read .1) ∙ law .1)
 
 pub aglimtaq-house-previous-spec : {M : Type 1} → statement M
 aglimtaq-house-previous-spec =
-    tie.close
-    (tie.spec
-    array-read-form-of
-    form-of-requires
-    enum-known-form
-    place-of-requires
-    read-previous-requires
-    element-write-position
-    of-house-requires
-    enum-told
-    returns
-    returns-2)
+    tie.close (tie.spec aglimtaq-read-previous-requires tell-requires returns)

@@ -1,75 +1,57 @@
--- `trace_c::gauge::aglimtaq_house_write` meets its contract: what the house writer says and leaves, as numbers; or that the form is none of the four.
+-- `trace_c::gauge::aglimtaq_house_write` meets its contract: the plain write of a Meta of tag 200, or why the bytes are turned away.
 -- Assumes nothing.
-use mathlib.Core.Path.{sym, ap, _∙_}
-use borrow.Author.Needs.{needs}
+use mathlib.Core.Path.{sym, _∙_}
 use lib.ListN.{length}
-use Rattle.records.specs.declared.position.Position.{Position}
-use Rattle.records.specs.declared.position.Written.{Written}
-use Rattle.house.specs.House.{houseWritten, houseBytes}
-use Rattle.trace_c.specs.Forms.{movedTo}
-use Rattle.trace_c.specs.Writing.{verdictNumber}
-use Rattle.trace_c.specs.Gauges.{houseNumber, houseLeft, houseOut}
-use Rattle.trace_c.proofs.gauge.aglimtaq_house_write.Statement.{statement}
+use Rattle.trace_c.specs.Forms.{formIn}
+use Rattle.trace_c.proofs.GaugeLaws.{plain-told, away-told}
+use borrow.Author.Needs.{needs}
 use Rattle.trace_c.proofs.gauge.aglimtaq_house_write.Tie as tie
+use Rattle.trace_c.proofs.gauge.aglimtaq_house_write.Statement.{statement}
 
-array-read-form-of : tie.Need-array-read-form-of
-array-read-form-of c = search needs
-
-form-of-requires : tie.Need-form-of-requires
-form-of-requires c κs = search needs
-
-enum-known-form : tie.Need-enum-known-form
-enum-known-form c = search needs
-
-place-of-requires : tie.Need-place-of-requires
-place-of-requires c κs = search needs
-
-write-requires : tie.Need-write-requires
-write-requires c κs = search needs
-
-element-write-position : tie.Need-element-write-position
-element-write-position c = search needs
-
-number-of-requires : tie.Need-number-of-requires
-number-of-requires c κs = search needs
+gauge-of-requires : tie.Need-gauge-of-requires
+gauge-of-requires c κs = search needs
 
 enum-told : tie.Need-enum-told
 enum-told c = search needs
+
+aglimtaq-write-requires : tie.Need-aglimtaq-write-requires
+aglimtaq-write-requires c κs = search needs
+
+enum-known-number : tie.Need-enum-known-number
+enum-known-number c = search needs
+
+turned-away-requires : tie.Need-turned-away-requires
+turned-away-requires c κs = search needs
 
 same-length : tie.Need-same-length
 same-length c = search needs
 
 returns : tie.Need-returns
-unfolding houseNumber houseLeft houseOut
 returns c =
-    let wrote = c .before .before .before .before in
-    let told = wrote .before .before .before .before in
-    let a = told .before .before .before .before .before .before .args in
-    let form = sym (told .before .before .form-of .ensures) ∙ told .form .given .1 in
-    let place = wrote .before .before .place-of .ensures in
-    let said = wrote .write .ensures .0 ∙ ap (λ (q : Position). houseWritten (length (a .out .now)) q (a .bytes .now)) place in (
-      rw form (c .number-of .ensures ∙ ap (λ (w : Written). verdictNumber (w .verdict)) said),
-      (rw form (ap (λ (w : Written). movedTo (a .position .now) (w .position .at)) said), rw form (wrote .write .ensures .1 ∙ ap (λ (q : Position). houseBytes (a .out .now) q (a .bytes .now)) place)),
-    )
+    let w = c .before .before .aglimtaq-write .ensures in
+    let told = c .before .before .before .before .before .before in
+    let a = c .before .before .before .before .before .before .before .before .before .before .before .args in
+    let is = sym (told .before .before .gauge-of .ensures) ∙ told .enum-told .given .1 in
+    let law = plain-told (length (a .out .now)) (a .out .now) (a .position .now) (a .bytes .now) _ is (formIn (a .position .now)) in
+    (w .0 ∙ law .0, (w .1 .0 ∙ law .1 .0, w .1 .1 .0 ∙ law .1 .1))
 
 returns-2 : tie.Need-returns-2
-unfolding houseNumber houseLeft houseOut
 returns-2 c =
-    let form = sym (c .before .before .form-of .ensures) ∙ c .enum-told .given .1 in
-    (rw form, (rw form, rw form))
+    let told = c .before .before .before in
+    let a = c .before .before .before .before .before .before .before .before .args in
+    let is = sym (told .before .before .gauge-of .ensures) ∙ told .number .given .1 in
+    let law = away-told (length (a .out .now)) (a .out .now) (a .position .now) (a .bytes .now) _ is (formIn (a .position .now)) in
+    (c .turned-away .ensures ∙ law .0, law .1)
 
 pub aglimtaq-house-write-spec : {M : Type 1} → statement M
 aglimtaq-house-write-spec =
     tie.close
     (tie.spec
-    array-read-form-of
-    form-of-requires
-    enum-known-form
-    place-of-requires
-    write-requires
-    element-write-position
-    number-of-requires
+    gauge-of-requires
     enum-told
+    aglimtaq-write-requires
+    enum-known-number
+    turned-away-requires
     same-length
     returns
     returns-2)
