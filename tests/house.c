@@ -309,8 +309,8 @@ static struct aglimtaq_reading read_at(int back, const uint8_t *bytes, size_t le
     return is;
 }
 
-/* The trace there and back. Returns how many records were framed on the way there; `back_too` many must be on the way
- * back. */
+/* The trace there and back. Returns how many records were framed on the way there; with `back_too` as many must be on
+ * the way back. */
 static size_t walk(const uint8_t *bytes, size_t lent, int back_too)
 {
     struct aglimtaq_position p = AGLIMTAQ_AT(0, now.form);
