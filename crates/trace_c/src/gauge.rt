@@ -31,6 +31,9 @@ use house::gauge::put_gauge;
 use house::write::refused;
 use records::bytes::bytes as lent_bytes;
 
+// The tag of the family.
+const HOUSE_TAG: u64 = 200;
+
 // A house reading: its type's number, its value and its tick.
 fn of_gauge(gauge: Gauge) -> Fields
     ensures { λ r. ⌜ r ≡ gaugeFields gauge ⌝ }
@@ -54,7 +57,7 @@ fn tell(bytes: &[u8], reading: &mut [u64; 10])
     if reading[4] != UNKNOWN_META {
         return;
     }
-    if reading[5] != 200 {
+    if reading[5] != HOUSE_TAG {
         return;
     }
     let start = reading[2];
@@ -120,7 +123,7 @@ pub extern "C" fn aglimtaq_house_write(out: &mut [u8], position: &mut [u64; 6], 
 {
     match gauge_of(bytes) {
         Parsed::Shown(_) => {
-            let record = [UNKNOWN_META, 200, 0, 0];
+            let record = [UNKNOWN_META, HOUSE_TAG, 0, 0];
             aglimtaq_write(out, position, &record, bytes)
         }
         Parsed::Refused(number) => turned_away(*position, out.len(), number),
