@@ -1,7 +1,9 @@
 /* Reads and writes house records, which are Metas of tag 200, through include/trace.h. Each call of a house reader is
- * held against a plain second reading, which stands here, and against the plain reader at the same position; each call
+ * held against a plain second reading, which stands here and in plain.h, and against the plain reader at the same
+ * position; each call
  * of a house writer, against the header's rules. The frames that are expected are made here, from docs/FORMAT.md.
  * Prints `ok`, or what differs first. */
+#include "plain.h"
 #include "trace.h"
 
 #include <stdio.h>
@@ -102,44 +104,6 @@ static void expect(const char *what, uint64_t is, uint64_t should)
     exit(1);
 }
 
-static void same_position(const char *what, const struct aglimtaq_position *is, const struct aglimtaq_position *should)
-{
-    expect(what, is->at, should->at);
-    expect(what, is->form, should->form);
-    expect(what, is->pending, should->pending);
-    expect(what, is->start, should->start);
-    expect(what, is->stated, should->stated);
-    expect(what, is->filled, should->filled);
-}
-
-static void same_reading(const char *what, const struct aglimtaq_reading *is, const struct aglimtaq_reading *should)
-{
-    expect(what, is->answer, should->answer);
-    expect(what, is->number, should->number);
-    expect(what, is->start, should->start);
-    expect(what, is->end, should->end);
-    expect(what, is->type, should->type);
-    for (size_t i = 0; i < 3; i++)
-        expect(what, is->numbers[i], should->numbers[i]);
-    expect(what, is->bytes_start, should->bytes_start);
-    expect(what, is->bytes_end, should->bytes_end);
-}
-
-/* Numbers that look random and are the same in every run: xorshift by Marsaglia, 64 bits. */
-static uint64_t random_number(void)
-{
-    static uint64_t x = 0x123456789abcdef;
-    x ^= x << 13;
-    x ^= x >> 7;
-    x ^= x << 17;
-    return x;
-}
-
-static size_t below(size_t bound)
-{
-    return (size_t)((random_number() >> 16) % bound);
-}
-
 static uint64_t number(const uint8_t *from, size_t width)
 {
     uint64_t n = 0;
@@ -187,51 +151,6 @@ static int gauge_of(const uint8_t *s, size_t n, struct aglimtaq_record *gauge)
     gauge->numbers[1] = number(s + 1 + kinds[s[0]].width, 8);
     gauge->numbers[2] = 0;
     return gauge->numbers[0] <= kinds[s[0]].most;
-}
-
-/* How many bytes the record wants that these begin with. */
-static uint64_t wanted(const uint8_t *bytes, size_t there)
-{
-    static const uint8_t widths[4] = {0, 1, 2, 4};
-    const size_t head = 1u + widths[bytes[0] % 4];
-    return there < head ? head : head + number(bytes + 1, head - 1);
-}
-
-static struct aglimtaq_reading answer_of(uint64_t answer, uint64_t number, uint64_t start, uint64_t end)
-{
-    const struct aglimtaq_reading r = {answer, number, start, end, 0, {0, 0, 0}, 0, 0};
-    return r;
-}
-
-/* What is framed at an offset, by docs/FORMAT.md: SHOWN, start and end; or the answer without a record. */
-static struct aglimtaq_reading framed_next(const uint8_t *bytes, size_t sees, uint64_t at)
-{
-    uint64_t size;
-    if (at > sees)
-        return answer_of(AGLIMTAQ_REFUSED, AGLIMTAQ_BEYOND_END, 0, 0);
-    if (at == sees)
-        return answer_of(AGLIMTAQ_FINISHED, 0, 0, 0);
-    size = wanted(bytes + at, sees - at);
-    if (size > sees - at)
-        return answer_of(AGLIMTAQ_UNFINISHED, size, 0, 0);
-    return answer_of(AGLIMTAQ_SHOWN, 0, at, at + size);
-}
-
-static struct aglimtaq_reading framed_previous(const uint8_t *bytes, size_t sees, uint64_t at)
-{
-    uint64_t back;
-    if (at > sees)
-        return answer_of(AGLIMTAQ_REFUSED, AGLIMTAQ_BEYOND_END, 0, 0);
-    if (at == 0)
-        return answer_of(AGLIMTAQ_FINISHED, 0, 0, 0);
-    if (bytes[at - 1] == 0 && at < 5)
-        return answer_of(AGLIMTAQ_REFUSED, AGLIMTAQ_NO_START, 0, 0);
-    back = bytes[at - 1] == 0 ? 5 + number(bytes + at - 5, 4) : 1u + bytes[at - 1];
-    if (back > at)
-        return answer_of(AGLIMTAQ_REFUSED, AGLIMTAQ_NO_START, 0, 0);
-    if (wanted(bytes + at - back, back) != back)
-        return answer_of(AGLIMTAQ_REFUSED, AGLIMTAQ_ENDS_DIFFER, 0, 0);
-    return answer_of(AGLIMTAQ_SHOWN, 0, at - back, at);
 }
 
 /* Where the bytes after the tag lie, if this whole record is a Meta of tag 200. */

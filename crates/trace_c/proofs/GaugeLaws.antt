@@ -43,7 +43,7 @@ use Rattle.trace_c.specs.Given.{fitting, builtMeta, built, newOf}
 use Rattle.trace_c.specs.Reading.{readingBy, placeBy}
 use Rattle.trace_c.specs.Writing.{given, verdictNumber, numberAt, placeAt, bytesAt, writtenNumber, writtenPlace, writtenBytes}
 use Rattle.trace_c.specs.Gauges.{gaugeFields, flatHouse, houseReadingBy, housePlaceBy, houseNumber, houseLeft, houseOut}
-use Rattle.trace_c.specs.InnerGauges.{spanned, toldOf, turnedAway}
+use Rattle.trace_c.specs.InnerGauges.{spanned, toldOf, refusalBy}
 
 -- ---- reading
 
@@ -181,12 +181,12 @@ module _ (lent : ℕ) (d p bs : List ℕ) where
       (ap (λ (x : Written). verdictNumber (x .verdict)) w, (ap (λ (x : Written). movedTo p (x .position .at)) w, plain-bytes (placed p f) bs g e d))
   plain-told g e formed.Nothing = (refl, (refl, refl))
 
-  pub away-told : (n : ℕ) → gaugeOf bs ≡ Parsed.Refused n → (form : Formed)
-      → (turnedAway lent p n form ≡ houseNumber lent p bs form) × ((p ≡ houseLeft lent p bs form) × (d ≡ houseOut d p bs form))
-  unfolding turnedAway houseNumber houseLeft houseOut
-  away-told n e (formed.Form f) =
+  pub refusal-told : (n : ℕ) → gaugeOf bs ≡ Parsed.Refused n → (form : Formed)
+      → (refusalBy lent p n form ≡ houseNumber lent p bs form) × ((p ≡ houseLeft lent p bs form) × (d ≡ houseOut d p bs form))
+  unfolding refusalBy houseNumber houseLeft houseOut
+  refusal-told n e (formed.Form f) =
       let w = refused-written (placed p f) bs n e lent in (
         ap (λ (x : Written). verdictNumber (x .verdict)) w,
         (moved-same p ∙ ap (movedTo p) (placed-at p f) ∙ ap (λ (x : Written). movedTo p (x .position .at)) w, refused-bytes (placed p f) bs n e d),
       )
-  away-told n e formed.Nothing = (refl, (refl, refl))
+  refusal-told n e formed.Nothing = (refl, (refl, refl))

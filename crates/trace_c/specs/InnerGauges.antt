@@ -29,8 +29,8 @@ toldOf s r =
     r
 
 -- what a house write of bytes that are no house reading returns
-unfoldable pub turnedAway : ℕ → List ℕ → ℕ → Formed → ℕ
-turnedAway lent p n (formed.Form f) =
+unfoldable pub refusalBy : ℕ → List ℕ → ℕ → Formed → ℕ
+refusalBy lent p n (formed.Form f) =
     let q = placed p f in
     verdictNumber (unlessOpen (pendingOf q) (cond (ltb lent (q .at)) (Verdict.Refused 8) (Verdict.Refused n)))
-turnedAway lent p n formed.Nothing = 257
+refusalBy lent p n formed.Nothing = 257

@@ -1,12 +1,12 @@
 // The house family of Meta tag 200, read and written by numbers and byte slices: over the plain calls, so that these stay
-// as fast as they are. A second caller of the functions beneath would keep the compiler from taking them in.
+// as fast as they are. With a second caller the functions beneath would no longer be inlined.
 ghost use mathlib.Core.Path.{_≡_};
 ghost use lib.ListN.{length};
 ghost use Rattle.house.specs.House.{houseNext, housePrevious};
 ghost use Rattle.trace_c.specs.Forms.{formOf, formIn};
 ghost use Rattle.trace_c.specs.Gauges.{gaugeFields, houseReadingBy, housePlaceBy, houseNumber, houseLeft, houseOut};
 ghost use Rattle.trace_c.specs.Gauges.{gaugeFits, gaugeBuilt, gaugeGiven, gaugeFrom, noGauge, gaugeNumber, gaugeLeft, gaugeOut};
-ghost use Rattle.trace_c.specs.InnerGauges.{toldOf, turnedAway};
+ghost use Rattle.trace_c.specs.InnerGauges.{toldOf, refusalBy};
 use crate::fields::Fields;
 use crate::fields::numbers;
 use crate::form::Formed;
@@ -102,8 +102,8 @@ pub extern "C" fn aglimtaq_house_previous(
 }
 
 // What a house write of bytes that are no house reading returns.
-fn turned_away(numbers: [u64; 6], lent: usize, number: u8) -> u64
-    ensures { λ r. ⌜ r ≡ turnedAway lent numbers number (formIn numbers) ⌝ }
+fn refusal_by(numbers: [u64; 6], lent: usize, number: u8) -> u64
+    ensures { λ r. ⌜ r ≡ refusalBy lent numbers number (formIn numbers) ⌝ }
 {
     match form_of(numbers[1]) {
         Formed::Form(form) => {
@@ -126,7 +126,7 @@ pub extern "C" fn aglimtaq_house_write(out: &mut [u8], position: &mut [u64; 6], 
             let record = [UNKNOWN_META, HOUSE_TAG, 0, 0];
             aglimtaq_write(out, position, &record, bytes)
         }
-        Parsed::Refused(number) => turned_away(*position, out.len(), number),
+        Parsed::Refused(number) => refusal_by(*position, out.len(), number),
     }
 }
 

@@ -1,9 +1,9 @@
--- `trace_c::gauge::aglimtaq_house_write` meets its contract: the plain write of a Meta of tag 200, or why the bytes are turned away.
+-- `trace_c::gauge::aglimtaq_house_write` meets its contract: the plain write of a Meta of tag 200, or why the bytes are refused.
 -- Assumes nothing.
 use mathlib.Core.Path.{sym, _∙_}
 use lib.ListN.{length}
 use Rattle.trace_c.specs.Forms.{formIn}
-use Rattle.trace_c.proofs.GaugeLaws.{plain-told, away-told}
+use Rattle.trace_c.proofs.GaugeLaws.{plain-told, refusal-told}
 use borrow.Author.Needs.{needs}
 use Rattle.trace_c.proofs.gauge.aglimtaq_house_write.Tie as tie
 use Rattle.trace_c.proofs.gauge.aglimtaq_house_write.Statement.{statement}
@@ -20,8 +20,8 @@ aglimtaq-write-requires c κs = search needs
 enum-known-number : tie.Need-enum-known-number
 enum-known-number c = search needs
 
-turned-away-requires : tie.Need-turned-away-requires
-turned-away-requires c κs = search needs
+refusal-by-requires : tie.Need-refusal-by-requires
+refusal-by-requires c κs = search needs
 
 same-length : tie.Need-same-length
 same-length c = search needs
@@ -40,8 +40,8 @@ returns-2 c =
     let told = c .before .before .before in
     let a = c .before .before .before .before .before .before .before .before .args in
     let is = sym (told .before .before .gauge-of .ensures) ∙ told .number .given .1 in
-    let law = away-told (length (a .out .now)) (a .out .now) (a .position .now) (a .bytes .now) _ is (formIn (a .position .now)) in
-    (c .turned-away .ensures ∙ law .0, law .1)
+    let law = refusal-told (length (a .out .now)) (a .out .now) (a .position .now) (a .bytes .now) _ is (formIn (a .position .now)) in
+    (c .refusal-by .ensures ∙ law .0, law .1)
 
 pub aglimtaq-house-write-spec : {M : Type 1} → statement M
 aglimtaq-house-write-spec =
@@ -51,7 +51,7 @@ aglimtaq-house-write-spec =
     enum-told
     aglimtaq-write-requires
     enum-known-number
-    turned-away-requires
+    refusal-by-requires
     same-length
     returns
     returns-2)

@@ -1,13 +1,13 @@
--- `trace_c::gauge::turned_away` meets its contract.
+-- `trace_c::gauge::refusal_by` meets its contract.
 -- Assumes nothing.
 use mathlib.Core.Path.{sym, ap, _∙_}
 use Rattle.records.specs.declared.position.Position.{Position}
 use Rattle.records.specs.declared.position.Written.{Written}
 use Rattle.trace_c.specs.Writing.{verdictNumber}
-use Rattle.trace_c.specs.InnerGauges.{turnedAway}
+use Rattle.trace_c.specs.InnerGauges.{refusalBy}
 use borrow.Author.Needs.{needs}
-use Rattle.trace_c.proofs.gauge.turned_away.Tie as tie
-use Rattle.trace_c.proofs.gauge.turned_away.Statement.{statement}
+use Rattle.trace_c.proofs.gauge.refusal_by.Tie as tie
+use Rattle.trace_c.proofs.gauge.refusal_by.Statement.{statement}
 
 array-read-form-of : tie.Need-array-read-form-of
 array-read-form-of c = search needs
@@ -31,7 +31,7 @@ enum-told : tie.Need-enum-told
 enum-told c = search needs
 
 returns : tie.Need-returns
-unfolding turnedAway
+unfolding refusalBy
 returns c =
     let refused = c .before in
     let told = refused .before .before .before in
@@ -39,11 +39,11 @@ returns c =
     rw (form, ← refused .before .place-of .ensures) (c .number-of .ensures ∙ ap (λ (w : Written). verdictNumber (w .verdict)) (refused .refused .ensures))
 
 returns-2 : tie.Need-returns-2
-unfolding turnedAway
+unfolding refusalBy
 returns-2 c = rw (sym (c .before .before .form-of .ensures) ∙ c .enum-told .given .1)
 
-pub turned-away-spec : {M : Type 1} → statement M
-turned-away-spec =
+pub refusal-by-spec : {M : Type 1} → statement M
+refusal-by-spec =
     tie.close
     (tie.spec
     array-read-form-of
