@@ -1,8 +1,7 @@
 /* Reads and writes house records, which are Metas of tag 200, through include/trace.h. Each call of a house reader is
  * held against a plain second reading, which stands here and in plain.h, and against the plain reader at the same
- * position; each call
- * of a house writer, against the header's rules. The frames that are expected are made here, from docs/FORMAT.md.
- * Prints `ok`, or what differs first. */
+ * position; each call of a house writer, against the header's rules. The frames that are expected are made here, from
+ * docs/FORMAT.md. Prints `ok`, or what differs first. */
 #include "plain.h"
 #include "trace.h"
 
