@@ -1,6 +1,8 @@
 // Reads lines from standard input, 393,216 bytes at most, and prints this codec's answer to each, in the line's address
 // form: to an input, the walk over it from 0 on; to a record, the bytes that are written. `stdin` has the lines, and
 // `stdout` what the original Rust answered to them. Their first lines say how they were made.
+#![tactic(auto)]
+
 mod answers;
 mod input;
 mod lines;

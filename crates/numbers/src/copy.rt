@@ -74,5 +74,5 @@ pub fn copy(out: &mut [u8], at: usize, s: &[u8])
         copy_short(out, at, s);
         return;
     }
-    bytes::copy(s, &mut out[at..]);
+    out[at..at + s.len()].copy_from_slice(s);
 }

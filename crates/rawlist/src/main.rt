@@ -1,5 +1,7 @@
 // Lists the records of a trace as `tracelist` does, by the structs that hold references: the iterator finds each
 // record, and `RawRecord` tells the rest from its bytes. The trace is read from standard input, 65,536 bytes at most.
+#![tactic(auto)]
+
 mod listing;
 mod record;
 

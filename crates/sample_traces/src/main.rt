@@ -1,6 +1,8 @@
 // Makes the samples: reads one digit from standard input and writes the bytes of the trace that it names
 // to standard output, 1 boot, 2 ride, 3 foreign, 4 damaged, 5 scratched. For any other input it writes nothing,
 // and nothing where a record was refused.
+#![tactic(auto)]
+
 mod begin;
 mod boot;
 mod curve;

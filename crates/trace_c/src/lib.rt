@@ -1,5 +1,7 @@
 // The functions that C and Rust call. include/trace.h explains the arguments and the numbers; a struct there is here
 // the array of its numbers.
+#![tactic(auto)]
+
 mod direct;
 pub mod fields;
 pub mod form;

@@ -1,4 +1,6 @@
 // Lists the records of a trace: document 01, "Listing". The trace is read from standard input, 65,536 bytes at most.
+#![tactic(auto)]
+
 ghost use Rattle.std.specs.Prelude.{◌≤◌, length};
 
 mod line;

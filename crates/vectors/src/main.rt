@@ -1,6 +1,8 @@
 // Outside vectors, run and compared: text, numbers and copies for the crate numbers; frames for the crate
 // frames; examples of writing and lists of calls for the crate records. `expected.py` makes `stdin` and
 // `stdout`, from documents 01 and 02, RFC 3629 and Python's own text, integers and bytes.
+#![tactic(auto)]
+
 mod book;
 mod call_lists;
 mod calls;
