@@ -6,8 +6,7 @@ use Prim.Native.Nat.{ℕ, ◌≤◌}
 use native.Mathlib.Omega.{arith}
 use borrow.Author.Tests.{le-ltb}
 use Rattle.numbers.specs.Inner.{awaited, after}
-use Rattle.numbers.proofs.lead.after_lead.Statement.{statement}
-use Rattle.numbers.proofs.lead.after_lead.Tie as tie
+use Rattle.numbers.proofs.lead.after_lead.Goals as goal
 
 -- what is none of the nine classes is 9 or more; in two steps, since `omega` splits few cases at once
 four : (k : ℕ) → (k ≡ 0 → ⊥) → (k ≡ 1 → ⊥) → (k ≡ 2 → ⊥) → (k ≡ 3 → ⊥) → 4 ≤ k
@@ -20,61 +19,46 @@ nothing : (k : ℕ) → 9 ≤ k → after k ≡ []
 unfolding after
 nothing k h = rw (le-ltb k 9 h)
 
-returns : tie.Need-returns
+pub returns-in-0 : goal.returns-in-0
 unfolding awaited after
-returns c = rw c.match.keys1
+returns-in-0 c = rw c.in-0.is
 
-returns-2 : tie.Need-returns-2
+pub returns-in-1 : goal.returns-in-1
 unfolding awaited after
-returns-2 c = rw c.match.keys2
+returns-in-1 c = rw c.in-1.is
 
-returns-3 : tie.Need-returns-3
+pub returns-in-2 : goal.returns-in-2
 unfolding awaited after
-returns-3 c = rw c.match.keys3
+returns-in-2 c = rw c.in-2.is
 
-returns-4 : tie.Need-returns-4
+pub returns-in-3 : goal.returns-in-3
 unfolding awaited after
-returns-4 c = rw c.match.keys4
+returns-in-3 c = rw c.in-3.is
 
-returns-5 : tie.Need-returns-5
+pub returns-in-4 : goal.returns-in-4
 unfolding awaited after
-returns-5 c = rw c.match.keys5
+returns-in-4 c = rw c.in-4.is
 
-returns-6 : tie.Need-returns-6
+pub returns-in-5 : goal.returns-in-5
 unfolding awaited after
-returns-6 c = rw c.match.keys6
+returns-in-5 c = rw c.in-5.is
 
-returns-7 : tie.Need-returns-7
+pub returns-in-6 : goal.returns-in-6
 unfolding awaited after
-returns-7 c = rw c.match.keys7
+returns-in-6 c = rw c.in-6.is
 
-returns-8 : tie.Need-returns-8
+pub returns-in-7 : goal.returns-in-7
 unfolding awaited after
-returns-8 c = rw c.match.keys8
+returns-in-7 c = rw c.in-7.is
 
-returns-9 : tie.Need-returns-9
+pub returns-in-8 : goal.returns-in-8
 unfolding awaited after
-returns-9 c = rw c.match.keys9
+returns-in-8 c = rw c.in-8.is
 
-returns-10 : tie.Need-returns-10
+pub returns-in_default : goal.returns-in_default
 unfolding awaited
-returns-10 c =
-    let k = c.before.args.class in
-    let r = c.match.rest in
+returns-in_default c =
+    let k = c.args.class in
+    let r = c.in_default.in_default-own.rest in
     let s = r.0.0.0.0.0 in
     sym (nothing k (nine k (four k s.0.0.0.1 s.0.0.1 s.0.1 s.1) r.0.0.0.0.1 r.0.0.0.1 r.0.0.1 r.0.1 r.1))
-
-pub after-lead-spec : {M : Type 1} → statement M
-after-lead-spec =
-    tie.close
-    (tie.spec
-    returns
-    returns-2
-    returns-3
-    returns-4
-    returns-5
-    returns-6
-    returns-7
-    returns-8
-    returns-9
-    returns-10)
