@@ -1,15 +1,16 @@
 // What a program says on standard error where standard input or output fails, with its name before the message.
-use libc::STDERR_FILENO;
+use std::io::Stderr;
 
-fn say(program: &[u8], message: &[u8]) {
-    io::write_all(STDERR_FILENO, program);
-    io::write_all(STDERR_FILENO, message);
+// Where standard error fails too, nothing can be said.
+fn say(stderr: Stderr, program: &[u8], message: &[u8]) {
+    let _ = stderr.write_all(program);
+    let _ = stderr.write_all(message);
 }
 
-pub fn say_unread(program: &[u8]) {
-    say(program, b": standard input could not be read\n");
+pub fn say_unread(stderr: Stderr, program: &[u8]) {
+    say(stderr, program, b": standard input could not be read\n");
 }
 
-pub fn say_unwritten(program: &[u8]) {
-    say(program, b": standard output could not be written\n");
+pub fn say_unwritten(stderr: Stderr, program: &[u8]) {
+    say(stderr, program, b": standard output could not be written\n");
 }

@@ -1,6 +1,24 @@
-// Standard input of the programs that list a trace, 65,536 bytes at most: document 01, "Listing".
+// Standard input of the programs, and of those that list a trace, 65,536 bytes at most: document 01, "Listing".
+ghost use Rattle.std.specs.Prelude.{◌≤◌, length};
+
 use crate::failure::{say_unread, say_unwritten};
-use libc::{STDIN_FILENO, STDOUT_FILENO};
+use std::io::{Read, Stderr, Stdin, Stdout};
+
+// Reads until the buffer is full, the input ends or a read fails, and hands back how many bytes it put at the start of
+// the buffer.
+pub fn read_full(mut stdin: Stdin, buffer: &mut [u8]) -> usize
+    ensures { result ≤ length buffer.new }
+{
+    let mut done = 0;
+    while done < buffer.len() {
+        match stdin.read(&mut buffer[done..]) {
+            Ok(0) => return done,
+            Ok(n) => done = done + n,
+            Err(_) => return done,
+        }
+    }
+    done
+}
 
 // What standard input has after the bytes that were read.
 #[derive(Drop)]
@@ -11,39 +29,35 @@ enum Behind {
 }
 
 // One more read. If a read failed before, this one fails too, or finds a byte after it.
-fn read_more() -> Behind {
+fn read_more(mut stdin: Stdin) -> Behind {
     let mut one = [0u8; 1];
-    let got = libc::read(STDIN_FILENO, &mut one);
-    if got == 0 {
-        return Behind::Nothing;
-    }
-    if got > 0 {
-        Behind::More
-    } else {
-        Behind::Failed
+    match stdin.read(&mut one) {
+        Ok(0) => Behind::Nothing,
+        Ok(_) => Behind::More,
+        Err(_) => Behind::Failed,
     }
 }
 
-fn say_too_long(program: &[u8]) {
-    if !io::write_all(STDOUT_FILENO, b"too long\n") {
-        say_unwritten(program);
+fn say_too_long(stdout: Stdout, stderr: Stderr, program: &[u8]) {
+    if stdout.write_all(b"too long\n").is_err() {
+        say_unwritten(stderr, program);
     }
 }
 
-fn say_too_long_or_failed(n: usize, program: &[u8]) {
+fn say_too_long_or_failed(stdout: Stdout, stderr: Stderr, n: usize, program: &[u8]) {
     if n == 65536 {
-        say_too_long(program);
+        say_too_long(stdout, stderr, program);
     } else {
-        say_unread(program);
+        say_unread(stderr, program);
     }
 }
 
 // Whether the n bytes that the program has read are all of standard input. Where they are not, a message says why.
-pub fn is_all(n: usize, program: &[u8]) -> bool {
-    match read_more() {
+pub fn is_all(stdin: Stdin, stdout: Stdout, stderr: Stderr, n: usize, program: &[u8]) -> bool {
+    match read_more(stdin) {
         Behind::Nothing => return true,
-        Behind::More => say_too_long_or_failed(n, program),
-        Behind::Failed => say_unread(program),
+        Behind::More => say_too_long_or_failed(stdout, stderr, n, program),
+        Behind::Failed => say_unread(stderr, program),
     }
     false
 }

@@ -84,7 +84,7 @@ pub fn wide_number(line: &[u8], space: usize) -> Wide
 }
 
 // A byte, how many times it is repeated, and the offset in the line after them. Where it is not good, there is no run.
-#[derive(Drop)]
+#[derive(Clone, Copy)]
 struct Run {
     good: bool,
     byte: u8,

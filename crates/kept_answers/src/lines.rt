@@ -5,6 +5,7 @@ use crate::answers::answer;
 use crate::input::decode;
 use crate::writes::write_line;
 use console::print;
+use std::io::Stdout;
 
 // Where the line ends that holds an offset.
 fn line_end(text: &[u8], from: usize) -> usize
@@ -29,22 +30,22 @@ fn begins_with(line: &[u8], byte: u8) -> bool {
 }
 
 // The answers to the input that a line is.
-fn answer_input(line: &[u8], bytes: &mut [u8], form: u64) {
+fn answer_input(stdout: Stdout, line: &[u8], bytes: &mut [u8], form: u64) {
     let input = decode(line, bytes);
     let count = input.count;
     if input.good {
-        answer(&bytes[..count], form);
+        answer(stdout, &bytes[..count], form);
     } else {
-        print::text(b"not an input");
+        print::text(stdout, b"not an input");
     }
 }
 
 // A `w` asks for a record to be written. Any other line is an input, decoded into the lent bytes.
-fn answer_in(line: &[u8], bytes: &mut [u8], form: u64) {
+fn answer_in(stdout: Stdout, line: &[u8], bytes: &mut [u8], form: u64) {
     if begins_with(line, b'w') {
-        return write_line(line, bytes, form);
+        return write_line(stdout, line, bytes, form);
     }
-    answer_input(line, bytes, form);
+    answer_input(stdout, line, bytes, form);
 }
 
 // The number of the address form that a digit and a space name; 0 for any other two bytes.
@@ -61,34 +62,34 @@ fn form_of(digit: u8, space: u8) -> u64 {
 }
 
 // A line that begins with `@`: the form follows, and then what is asked in it.
-fn answer_formed(line: &[u8], bytes: &mut [u8]) {
+fn answer_formed(stdout: Stdout, line: &[u8], bytes: &mut [u8]) {
     if line.len() > 2 {
         let form = form_of(line[1], line[2]);
         if form > 0 {
-            return answer_in(&line[3..], bytes, form);
+            return answer_in(stdout, &line[3..], bytes, form);
         }
     }
-    print::text(b"not an input");
+    print::text(stdout, b"not an input");
 }
 
 // A comment is printed as it is. A line that names no form is in form 0.
-fn answer_line(line: &[u8], bytes: &mut [u8]) {
+fn answer_line(stdout: Stdout, line: &[u8], bytes: &mut [u8]) {
     if begins_with(line, b'#') {
-        return print::text(line);
+        return print::text(stdout, line);
     }
     if begins_with(line, b'@') {
-        return answer_formed(line, bytes);
+        return answer_formed(stdout, line, bytes);
     }
-    answer_in(line, bytes, 0);
+    answer_in(stdout, line, bytes, 0);
 }
 
-pub fn answer_lines(text: &[u8]) {
+pub fn answer_lines(stdout: Stdout, text: &[u8]) {
     let mut bytes = [0u8; 66048];
     let mut at = 0;
     while at < text.len() {
         let end = line_end(text, at);
-        answer_line(&text[at..end], &mut bytes);
-        print::text(b"\n");
+        answer_line(stdout, &text[at..end], &mut bytes);
+        print::text(stdout, b"\n");
         at = end + 1;
     }
 }

@@ -10,16 +10,16 @@ mod names;
 mod tokens;
 mod writes;
 
+use console::input::read_full;
 use console::print;
-use libc::STDIN_FILENO;
 use lines::answer_lines;
 
-fn main() {
+fn main(rt: HostRuntime) {
     let mut space = [0u8; 393217];
-    let n = io::read_full(STDIN_FILENO, &mut space);
+    let n = read_full(rt.stdin(), &mut space);
     if n > 393216 {
-        print::text(b"too long\n");
+        print::text(rt.stdout(), b"too long\n");
     } else {
-        answer_lines(&space[..n]);
+        answer_lines(rt.stdout(), &space[..n]);
     }
 }

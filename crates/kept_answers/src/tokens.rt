@@ -3,7 +3,7 @@
 ghost use Rattle.std.specs.Prelude.{◌+◌, ◌<◌, ◌≤◌, length};
 
 use console::print;
-use libc::STDOUT_FILENO;
+use std::io::Stdout;
 
 // How many times in a row the byte at an offset comes there.
 fn run_from(s: &[u8], at: usize) -> usize
@@ -21,48 +21,44 @@ fn run_from(s: &[u8], at: usize) -> usize
     i - at
 }
 
-fn digits(byte: u8) {
-    io::print_hex(STDOUT_FILENO, byte as u64, 2);
-}
-
 // The digits of a byte, `times` times.
-fn each(byte: u8, times: usize) {
+fn each(stdout: Stdout, byte: u8, times: usize) {
     let mut left = times;
     while left > 0 {
-        digits(byte);
+        print::digits(stdout, byte);
         left = left - 1;
     }
 }
 
-fn run(byte: u8, times: usize) {
+fn run(stdout: Stdout, byte: u8, times: usize) {
     if times < 12 {
-        return each(byte, times);
+        return each(stdout, byte, times);
     }
-    digits(byte);
-    print::labelled(b"*", times as u64);
+    print::digits(stdout, byte);
+    print::labelled(stdout, b"*", times as u64);
 }
 
 // A run that is written as `xx*N` has a space before and after it.
-fn space(at: usize, times: usize, before: usize) {
+fn space(stdout: Stdout, at: usize, times: usize, before: usize) {
     if at == 0 {
         return;
     }
     if times < 12 && before < 12 {
         return;
     }
-    print::text(b" ");
+    print::text(stdout, b" ");
 }
 
-pub fn tokens(s: &[u8]) {
+pub fn tokens(stdout: Stdout, s: &[u8]) {
     if s.len() == 0 {
-        return print::text(b"-");
+        return print::text(stdout, b"-");
     }
     let mut at = 0;
     let mut before = 0;
     while at < s.len() {
         let times = run_from(s, at);
-        space(at, times, before);
-        run(s[at], times);
+        space(stdout, at, times, before);
+        run(stdout, s[at], times);
         before = times;
         at = at + times;
     }

@@ -2,21 +2,22 @@
 use crate::input::{decode, wide_number};
 use crate::tokens::tokens;
 use console::print;
+use std::io::Stdout;
 use trace_c::aglimtaq_write;
 
 // What aglimtaq_write leaves of the record in an output that has room.
-fn written(record: &[u64; 4], bytes: &[u8], form: u64) {
+fn written(stdout: Stdout, record: &[u64; 4], bytes: &[u8], form: u64) {
     let mut out = [0u8; 66048];
     let mut position = [0, form, 0, 0, 0, 0];
     let refused = aglimtaq_write(&mut out, &mut position, record, bytes);
     if refused != 0 {
-        return print::labelled(b"refused ", refused);
+        return print::labelled(stdout, b"refused ", refused);
     }
     let end = position[0] as usize;
     if out.len() < end {
-        return print::text(b"beyond the output");
+        return print::text(stdout, b"beyond the output");
     }
-    tokens(&out[..end]);
+    tokens(stdout, &out[..end]);
 }
 
 // The four numbers of a line, each after a space; and the offset after them.
@@ -38,19 +39,19 @@ fn asked(line: &[u8]) -> Numbers {
 }
 
 // The bytes of the record that a line asks for. What the record holds is decoded into the lent bytes.
-pub fn write_line(line: &[u8], bytes: &mut [u8], form: u64) {
+pub fn write_line(stdout: Stdout, line: &[u8], bytes: &mut [u8], form: u64) {
     let found = asked(line);
     let record = found.record;
     let end = found.end;
     if line.len() <= end {
-        return print::text(b"not an input");
+        return print::text(stdout, b"not an input");
     }
     let from = end + 1;
     let input = decode(&line[from..], bytes);
     let count = input.count;
     if input.good {
-        written(&record, &bytes[..count], form);
+        written(stdout, &record, &bytes[..count], form);
     } else {
-        print::text(b"not an input");
+        print::text(stdout, b"not an input");
     }
 }

@@ -5,14 +5,13 @@
 mod listing;
 mod record;
 
-use console::input::is_all;
-use libc::STDIN_FILENO;
+use console::input::{is_all, read_full};
 use listing::list;
 
-fn main() {
-    let mut space = io::large_buffer();
-    let n = io::read_full(STDIN_FILENO, &mut space);
-    if is_all(n, b"rawlist") {
-        list(&space[..n]);
+fn main(rt: HostRuntime) {
+    let mut space = [0u8; 65536];
+    let n = read_full(rt.stdin(), &mut space);
+    if is_all(rt.stdin(), rt.stdout(), rt.stderr(), n, b"rawlist") {
+        list(rt.stdout(), &space[..n]);
     }
 }

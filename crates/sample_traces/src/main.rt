@@ -12,9 +12,11 @@ mod put;
 mod ride;
 mod scratched;
 
-use libc::{STDIN_FILENO, STDOUT_FILENO};
+use console::input::read_full;
+use console::print;
 use records::judge::Verdict;
 use records::position::Written;
+use std::io::Stdout;
 
 // Makes the trace that a digit names.
 fn made(out: &mut [u8], digit: u8) -> Written {
@@ -29,7 +31,7 @@ fn made(out: &mut [u8], digit: u8) -> Written {
 }
 
 // The bytes of a trace, where all its records were written.
-fn show(out: &[u8], w: Written) {
+fn show(stdout: Stdout, out: &[u8], w: Written) {
     let position = w.position;
     let verdict = w.verdict;
     let end = position.at;
@@ -37,16 +39,16 @@ fn show(out: &[u8], w: Written) {
         return;
     };
     if end <= out.len() {
-        io::write_all(STDOUT_FILENO, &out[..end]);
+        print::text(stdout, &out[..end]);
     }
 }
 
-fn main() {
+fn main(rt: HostRuntime) {
     let mut input = [0u8; 2];
-    if io::read_full(STDIN_FILENO, &mut input) != 1 {
+    if read_full(rt.stdin(), &mut input) != 1 {
         return;
     }
     let mut out = [0u8; 2048];
     let w = made(&mut out, input[0]);
-    show(&out, w);
+    show(rt.stdout(), &out, w);
 }

@@ -10,7 +10,7 @@ use records::address::AddressForm;
 use records::position::{Answer, next_at};
 
 // A framed record with its kind and 0 or the number of the refusal; or the last line.
-#[derive(Drop)]
+#[derive(Clone, Copy)]
 pub enum Line {
     Record {
         start: usize,

@@ -8,7 +8,7 @@ ghost use Rattle.tracelist.specs.Inner.{listed_from, rest, left};
 use crate::line::{Line, line_at};
 use crate::text::{LONGEST, put_line};
 use frames::head::heads;
-use libc::STDOUT_FILENO;
+use std::io::Stdout;
 
 // A piece of the listing: the first `held` bytes of a buffer. What is listed from offset `at` on comes after it, if
 // there is more.
@@ -73,12 +73,12 @@ fn fill(heads: &[u16; 256], out: &mut [u8], s: &[u8], from: usize) -> Piece
     Piece { held, at, more }
 }
 
-// Writes a piece, and answers whether all of it was written. The contract of `io::write_all` cannot say which bytes are
+// Writes a piece, and answers whether all of it was written. The contract of std's `write_all` cannot say which bytes are
 // written. So this one requires that the bytes it is handed are those of the listing of s from offset `written` on.
-fn write_piece(out: &[u8], held: usize, s: &[u8], written: usize) -> bool
+fn write_piece(stdout: Stdout, out: &[u8], held: usize, s: &[u8], written: usize) -> bool
     requires { (held ≤ length out.now) × (take held out.now ≡ part (listing s.now) written held) }
 {
-    io::write_all(STDOUT_FILENO, &out[..held])
+    stdout.write_all(&out[..held]).is_ok()
 }
 
 // How many bytes of the listing were written, and whether these are all of it.
@@ -89,7 +89,7 @@ pub(crate) struct Listed {
 }
 
 // Writes the listing of s piece by piece, by way of a buffer, up to the first piece that cannot be written.
-fn list_by(out: &mut [u8], s: &[u8]) -> Listed
+fn list_by(stdout: Stdout, out: &mut [u8], s: &[u8]) -> Listed
     requires { (96 ≤ length out.old) × (length out.old ≤ 65536) × (length s.now ≤ 65536) }
     ensures { result.whole ≡ true → result.written ≡ length (listing s.now) }
 {
@@ -100,7 +100,7 @@ fn list_by(out: &mut [u8], s: &[u8]) -> Listed
     while more {
         let piece = fill(&heads, out, s, at);
         let held = piece.held;
-        if !write_piece(out, held, s, written) {
+        if !write_piece(stdout, out, held, s, written) {
             return Listed {
                 written,
                 whole: false,
@@ -118,10 +118,10 @@ fn list_by(out: &mut [u8], s: &[u8]) -> Listed
 
 // Writes the listing of s. No contract can say what reaches standard output. `write_piece` requires that each piece
 // begins where the one before it ends, and `list` ensures that the last ends the listing, unless a write failed.
-pub fn list(s: &[u8]) -> Listed
+pub fn list(stdout: Stdout, s: &[u8]) -> Listed
     requires { length s.now ≤ 65536 }
     ensures { result.whole ≡ true → result.written ≡ length (listing s.now) }
 {
     let mut space = io::large_buffer();
-    list_by(&mut space, s)
+    list_by(stdout, &mut space, s)
 }

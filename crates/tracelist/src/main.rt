@@ -8,24 +8,24 @@ mod listing;
 mod text;
 
 use console::failure::say_unwritten;
-use console::input::is_all;
-use libc::STDIN_FILENO;
+use console::input::{is_all, read_full};
 use listing::list;
+use std::io::{Stderr, Stdout};
 
 // Lists the trace. Where that cannot be written, a message says so.
-fn show(s: &[u8])
+fn show(stdout: Stdout, stderr: Stderr, s: &[u8])
     requires { length s.now ≤ 65536 }
 {
-    let listed = list(s);
+    let listed = list(stdout, s);
     if !listed.whole {
-        say_unwritten(b"tracelist");
+        say_unwritten(stderr, b"tracelist");
     }
 }
 
-fn main() {
+fn main(rt: HostRuntime) {
     let mut space = io::large_buffer();
-    let n = io::read_full(STDIN_FILENO, &mut space);
-    if is_all(n, b"tracelist") {
-        show(&space[..n]);
+    let n = read_full(rt.stdin(), &mut space);
+    if is_all(rt.stdin(), rt.stdout(), rt.stderr(), n, b"tracelist") {
+        show(rt.stdout(), rt.stderr(), &space[..n]);
     }
 }

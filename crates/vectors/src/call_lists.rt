@@ -10,11 +10,12 @@ use crate::rules::{Ruling, rule};
 use crate::slices::{at, copy, part, remainder};
 use crate::tally::{BEYOND, POSITIONS, VERDICTS, called, compared, report};
 use crate::write::{Said, write};
+use std::io::Stdout;
 use std::num::wrapping_add_usize;
 
 // A list's form, and how far it has come: the codec's position, and the book's end position and number of
 // records.
-#[derive(Drop)]
+#[derive(Clone, Copy)]
 struct State {
     form: u64,
     at: usize,
@@ -91,7 +92,7 @@ fn beyond(out: &[u8], before: &[u8], end: usize, tally: &mut [u64]) {
     }
 }
 
-fn line(out: &[u8], state: State) {
+fn line(stdout: Stdout, out: &[u8], state: State) {
     let n = [
         state.form,
         out.len() as u64,
@@ -99,11 +100,12 @@ fn line(out: &[u8], state: State) {
         state.end as u64,
         remainder(out),
     ];
-    numbers(b"form, lent, records, end, remainder:", &n, b"\n");
+    numbers(stdout, b"form, lent, records, end, remainder:", &n, b"\n");
 }
 
 // What was written of a list, compared with its book.
 fn check(
+    stdout: Stdout,
     out: &[u8],
     before: &[u8],
     pool: &[u8],
@@ -112,7 +114,7 @@ fn check(
     tally: &mut [u64],
 ) {
     let s = part(out, 0, state.end);
-    line(out, state);
+    line(stdout, out, state);
     beyond(out, before, state.end, tally);
     read_back(state.form, s, pool, book, tally);
     read_all(state.form, s, pool, book, tally);
@@ -120,6 +122,7 @@ fn check(
 
 // One list, written over the bytes `before`.
 fn one_list(
+    stdout: Stdout,
     form: u64,
     out: &mut [u8],
     before: &[u8],
@@ -130,14 +133,23 @@ fn one_list(
     let mut book = [[0u64; 8]; 60];
     copy(out, before);
     let state = write_all(form, out, pool, &mut book, tally, seed);
-    check(out, before, pool, entries(&book, state.count), state, tally);
+    check(
+        stdout,
+        out,
+        before,
+        pool,
+        entries(&book, state.count),
+        state,
+        tally,
+    );
 }
 
-fn drawn_list(form: u64, pool: &[u8], tally: &mut [u64], seed: &mut u64) {
+fn drawn_list(stdout: Stdout, form: u64, pool: &[u8], tally: &mut [u64], seed: &mut u64) {
     let mut out = [0u8; 3500];
     let lent = 300 + draw(seed, 3000) as usize;
     let start = ANY + draw(seed, 60000) as usize;
     one_list(
+        stdout,
         form,
         &mut out[..lent],
         part(pool, start, lent),
@@ -147,16 +159,16 @@ fn drawn_list(form: u64, pool: &[u8], tally: &mut [u64], seed: &mut u64) {
     );
 }
 
-fn lists(pool: &[u8], tally: &mut [u64], seed: &mut u64) {
+fn lists(stdout: Stdout, pool: &[u8], tally: &mut [u64], seed: &mut u64) {
     let mut i: u64 = 0;
     while i < 40 {
-        drawn_list(i % 4, pool, tally, seed);
+        drawn_list(stdout, i % 4, pool, tally, seed);
         i = i + 1;
     }
 }
 
-pub(crate) fn run(pool: &[u8], seed: &mut u64) {
+pub(crate) fn run(stdout: Stdout, pool: &[u8], seed: &mut u64) {
     let mut tally = [0u64; 36];
-    lists(pool, &mut tally, seed);
-    report(&tally);
+    lists(stdout, pool, &mut tally, seed);
+    report(stdout, &tally);
 }

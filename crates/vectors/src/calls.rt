@@ -5,7 +5,7 @@ use crate::pool::{ANY, LISTS};
 use crate::random::{draw, number};
 use crate::rules::{addresses, shape_of};
 
-#[derive(Drop)]
+#[derive(Clone, Copy)]
 pub(crate) struct Call {
     pub(crate) t: u64,
     pub(crate) a: u64,

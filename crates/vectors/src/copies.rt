@@ -3,27 +3,28 @@ ghost use Rattle.std.specs.Prelude.{◌≤◌, length};
 
 use console::print;
 use numbers::copy::copy;
+use std::io::Stdout;
 
-fn line(s: &[u8])
+fn line(stdout: Stdout, s: &[u8])
     requires { length s.now ≤ 34 }
 {
     let mut buffer = [0x2e; 36];
     copy(&mut buffer, 1, s);
-    print::text(&buffer);
-    print::text(b"\n");
+    print::text(stdout, &buffer);
+    print::text(stdout, b"\n");
 }
 
 // Every prefix of s.
-fn lines(s: &[u8])
+fn lines(stdout: Stdout, s: &[u8])
     requires { length s.now ≤ 34 }
 {
     let mut n = 0;
     while n <= s.len() {
-        line(&s[..n]);
+        line(stdout, &s[..n]);
         n = n + 1;
     }
 }
 
-pub(crate) fn list() {
-    lines(b"ABCDEFGHIJKLMNOPQRSTUVWXYZ01234567");
+pub(crate) fn list(stdout: Stdout) {
+    lines(stdout, b"ABCDEFGHIJKLMNOPQRSTUVWXYZ01234567");
 }

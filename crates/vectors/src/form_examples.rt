@@ -6,6 +6,7 @@ use crate::lines::{edges, numbers};
 use crate::pool::ANY;
 use crate::slices::part;
 use crate::write_examples::written;
+use std::io::Stdout;
 
 // To each example its form, its type, its numbers, how many bytes its slice has, and the position:
 // Instruction, Unmap and Map in the three new forms; Pc and Unmap at the border of four bytes; CallEnd,
@@ -42,7 +43,7 @@ fn numbers_at(i: usize) -> [u64; 6] {
     }
 }
 
-fn example(form: u64, call: Call, slice: &[u8], from: usize) {
+fn example(stdout: Stdout, form: u64, call: Call, slice: &[u8], from: usize) {
     let n = [
         form,
         call.t,
@@ -51,12 +52,12 @@ fn example(form: u64, call: Call, slice: &[u8], from: usize) {
         slice.len() as u64,
         from as u64,
     ];
-    numbers(b"form, type, numbers, bytes, at:", &n, b"");
-    edges(slice);
-    written(form, call, slice, from);
+    numbers(stdout, b"form, type, numbers, bytes, at:", &n, b"");
+    edges(stdout, slice);
+    written(stdout, form, call, slice, from);
 }
 
-pub(crate) fn list(pool: &[u8]) {
+pub(crate) fn list(stdout: Stdout, pool: &[u8]) {
     let mut i: usize = 0;
     while i < 25 {
         let n = numbers_at(i);
@@ -68,7 +69,13 @@ pub(crate) fn list(pool: &[u8]) {
             start: ANY,
             len: n[4] as usize,
         };
-        example(n[0], call, part(pool, call.start, call.len), n[5] as usize);
+        example(
+            stdout,
+            n[0],
+            call,
+            part(pool, call.start, call.len),
+            n[5] as usize,
+        );
         i = i + 1;
     }
 }

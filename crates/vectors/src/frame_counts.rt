@@ -10,6 +10,7 @@ use frames::head::heads;
 use frames::read::{
     Content, Frame, Start, one_record_in, previous_record_in, previous_start, value_in,
 };
+use std::io::Stdout;
 
 fn of_frame(frame: Frame) -> Answer {
     match frame {
@@ -52,7 +53,7 @@ fn read(reading: Reading, heads: &[u16; 256], s: &[u8]) -> Answer
     }
 }
 
-#[derive(Drop)]
+#[derive(Clone, Copy)]
 struct Tally {
     found: usize,
     none: usize,
@@ -114,64 +115,64 @@ fn count_all(reading: Reading, heads: &[u16; 256], n: usize, strings: usize) -> 
     t
 }
 
-fn records(heads: &[u16; 256], n: usize, strings: usize)
+fn records(stdout: Stdout, heads: &[u16; 256], n: usize, strings: usize)
     requires heads_value { heads.now ≡ entries }
     requires n_bound { (n ≤ 3) × (strings ≤ 16777216) }
 {
     let t = count_all(Reading::Record, heads, n, strings);
-    print::count(t.found as u64, b" whole, ");
-    print::count(t.none as u64, b" unfinished, ");
-    print::count(t.differ as u64, b" differ; ");
+    print::count(stdout, t.found as u64, b" whole, ");
+    print::count(stdout, t.none as u64, b" unfinished, ");
+    print::count(stdout, t.differ as u64, b" differ; ");
 }
 
-fn values(heads: &[u16; 256], n: usize, strings: usize)
+fn values(stdout: Stdout, heads: &[u16; 256], n: usize, strings: usize)
     requires heads_value { heads.now ≡ entries }
     requires n_bound { (n ≤ 3) × (strings ≤ 16777216) }
 {
     let t = count_all(Reading::Value, heads, n, strings);
-    print::count(t.found as u64, b" contents, ");
-    print::count(t.none as u64, b" refused with 1, ");
-    print::count(t.later as u64, b" with 2, ");
-    print::count(t.differ as u64, b" differ; ");
+    print::count(stdout, t.found as u64, b" contents, ");
+    print::count(stdout, t.none as u64, b" refused with 1, ");
+    print::count(stdout, t.later as u64, b" with 2, ");
+    print::count(stdout, t.differ as u64, b" differ; ");
 }
 
-fn starts(heads: &[u16; 256], n: usize, strings: usize)
+fn starts(stdout: Stdout, heads: &[u16; 256], n: usize, strings: usize)
     requires heads_value { heads.now ≡ entries }
     requires n_bound { (n ≤ 3) × (strings ≤ 16777216) }
 {
     let t = count_all(Reading::Start, heads, n, strings);
-    print::count(t.found as u64, b" starts, ");
-    print::count(t.none as u64, b" refused with 6, ");
-    print::count(t.differ as u64, b" differ; ");
+    print::count(stdout, t.found as u64, b" starts, ");
+    print::count(stdout, t.none as u64, b" refused with 6, ");
+    print::count(stdout, t.differ as u64, b" differ; ");
 }
 
-fn found(heads: &[u16; 256], n: usize, strings: usize)
+fn found(stdout: Stdout, heads: &[u16; 256], n: usize, strings: usize)
     requires heads_value { heads.now ≡ entries }
     requires n_bound { (n ≤ 3) × (strings ≤ 16777216) }
 {
     let t = count_all(Reading::Previous, heads, n, strings);
-    print::count(t.found as u64, b" found, ");
-    print::count(t.none as u64, b" refused with 6, ");
-    print::count(t.later as u64, b" with 16, ");
-    print::count(t.differ as u64, b" differ\n");
+    print::count(stdout, t.found as u64, b" found, ");
+    print::count(stdout, t.none as u64, b" refused with 6, ");
+    print::count(stdout, t.later as u64, b" with 16, ");
+    print::count(stdout, t.differ as u64, b" differ\n");
 }
 
-fn line(heads: &[u16; 256], n: usize, strings: usize)
+fn line(stdout: Stdout, heads: &[u16; 256], n: usize, strings: usize)
     requires heads_value { heads.now ≡ entries }
     requires n_bound { (n ≤ 3) × (strings ≤ 16777216) }
 {
-    print::count(n as u64, b" bytes, ");
-    print::count(strings as u64, b" strings: ");
-    records(heads, n, strings);
-    values(heads, n, strings);
-    starts(heads, n, strings);
-    found(heads, n, strings);
+    print::count(stdout, n as u64, b" bytes, ");
+    print::count(stdout, strings as u64, b" strings: ");
+    records(stdout, heads, n, strings);
+    values(stdout, heads, n, strings);
+    starts(stdout, heads, n, strings);
+    found(stdout, heads, n, strings);
 }
 
-pub(crate) fn list() {
+pub(crate) fn list(stdout: Stdout) {
     let heads = heads();
-    line(&heads, 0, 1);
-    line(&heads, 1, 256);
-    line(&heads, 2, 65536);
-    line(&heads, 3, 16777216);
+    line(stdout, &heads, 0, 1);
+    line(stdout, &heads, 1, 256);
+    line(stdout, &heads, 2, 65536);
+    line(stdout, &heads, 3, 16777216);
 }

@@ -1,25 +1,26 @@
 // Parts of lines: numbers, and the bytes at both ends of a slice.
 use crate::slices::part;
 use console::print;
+use std::io::Stdout;
 
 // Numbers with a space before each, and what stands before and after them.
-pub(crate) fn numbers(before: &[u8], n: &[u64], after: &[u8]) {
-    print::text(before);
+pub(crate) fn numbers(stdout: Stdout, before: &[u8], n: &[u64], after: &[u8]) {
+    print::text(stdout, before);
     let mut i = 0;
     while i < n.len() {
-        print::labelled(b" ", n[i]);
+        print::labelled(stdout, b" ", n[i]);
         i = i + 1;
     }
-    print::text(after);
+    print::text(stdout, after);
 }
 
 // Up to 44 bytes; of more the first three and the last five.
-pub(crate) fn edges(s: &[u8]) {
-    print::text(b"; ");
+pub(crate) fn edges(stdout: Stdout, s: &[u8]) {
+    print::text(stdout, b"; ");
     if s.len() <= 44 {
-        return print::bytes(s);
+        return print::bytes(stdout, s);
     }
-    print::bytes(part(s, 0, 3));
-    print::text(b".. ");
-    print::bytes(part(s, s.len() - 5, 5));
+    print::bytes(stdout, part(s, 0, 3));
+    print::text(stdout, b".. ");
+    print::bytes(stdout, part(s, s.len() - 5, 5));
 }

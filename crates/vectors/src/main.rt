@@ -27,30 +27,32 @@ mod widths;
 mod write;
 mod write_examples;
 
-fn numbers() {
-    strings::list_input();
-    text_counts::list();
-    widths::list();
-    copies::list();
+use std::io::{Stdin, Stdout};
+
+fn numbers(stdin: Stdin, stdout: Stdout) {
+    strings::list_input(stdin, stdout);
+    text_counts::list(stdout);
+    widths::list(stdout);
+    copies::list(stdout);
 }
 
-fn frames() {
-    frame_counts::list();
-    frames_written::list();
+fn frames(stdout: Stdout) {
+    frame_counts::list(stdout);
+    frames_written::list(stdout);
 }
 
 // The examples and the lists take their slices of one pool. One seed draws the pool and the lists.
-fn records() {
+fn records(stdout: Stdout) {
     let mut pool = [0u8; 68048];
     let mut seed = 1;
     pool::fill(&mut pool, &mut seed);
-    write_examples::list(&pool);
-    form_examples::list(&pool);
-    call_lists::run(&pool, &mut seed);
+    write_examples::list(stdout, &pool);
+    form_examples::list(stdout, &pool);
+    call_lists::run(stdout, &pool, &mut seed);
 }
 
-fn main() {
-    numbers();
-    frames();
-    records();
+fn main(rt: HostRuntime) {
+    numbers(rt.stdin(), rt.stdout());
+    frames(rt.stdout());
+    records(rt.stdout());
 }

@@ -12,7 +12,7 @@ pub(crate) const UNFINISHED: u64 = 4;
 
 // The next position; which answer it is; the number of a refusal or the number wanted; the frame; the
 // record's type, its numbers, and where its bytes lie.
-#[derive(Drop)]
+#[derive(Clone, Copy)]
 pub(crate) struct Shown {
     pub(crate) next: usize,
     pub(crate) sort: u64,

@@ -4,6 +4,7 @@ ghost use Rattle.std.specs.Prelude.{◌≤◌, length};
 use crate::lines::numbers;
 use crate::slices::get;
 use console::print;
+use std::io::Stdout;
 use std::num::{wrapping_add_u64, wrapping_add_usize};
 
 // The kinds of comparison: at each place the number made, and at the next how many differ.
@@ -59,44 +60,46 @@ pub(crate) fn wanted(tally: &mut [u64], number: u64) {
     add(tally, WANTED, number);
 }
 
-fn line(kind: &[u8], tally: &[u64], i: usize) {
+fn line(stdout: Stdout, kind: &[u8], tally: &[u64], i: usize) {
     let n = [get(tally, i), get(tally, wrapping_add_usize(i, 1))];
-    numbers(kind, &n, b"\n");
+    numbers(stdout, kind, &n, b"\n");
 }
 
-fn report_writing(tally: &[u64]) {
-    line(b"verdicts:", tally, VERDICTS);
-    line(b"positions:", tally, POSITIONS);
-    line(b"bytes beyond the end:", tally, BEYOND);
+fn report_writing(stdout: Stdout, tally: &[u64]) {
+    line(stdout, b"verdicts:", tally, VERDICTS);
+    line(stdout, b"positions:", tally, POSITIONS);
+    line(stdout, b"bytes beyond the end:", tally, BEYOND);
 }
 
-fn report_reading(tally: &[u64]) {
-    line(b"records, read on:", tally, NEXT);
-    line(b"ends, read on:", tally, NEXT_ENDS);
-    line(b"records, read back:", tally, PREVIOUS);
-    line(b"ends, read back:", tally, PREVIOUS_ENDS);
+fn report_reading(stdout: Stdout, tally: &[u64]) {
+    line(stdout, b"records, read on:", tally, NEXT);
+    line(stdout, b"ends, read on:", tally, NEXT_ENDS);
+    line(stdout, b"records, read back:", tally, PREVIOUS);
+    line(stdout, b"ends, read back:", tally, PREVIOUS_ENDS);
 }
 
-fn report_cuts(tally: &[u64]) {
-    line(b"records, read on to a cut:", tally, CUTS);
-    line(b"ends, read on to a cut:", tally, CUT_ENDS);
+fn report_cuts(stdout: Stdout, tally: &[u64]) {
+    line(stdout, b"records, read on to a cut:", tally, CUTS);
+    line(stdout, b"ends, read on to a cut:", tally, CUT_ENDS);
     line(
+        stdout,
         b"cuts that leave a part of a frame, sum of the numbers wanted:",
         tally,
         UNFINISHED,
     );
 }
 
-pub(crate) fn report(tally: &[u64])
+pub(crate) fn report(stdout: Stdout, tally: &[u64])
     requires { 28 ≤ length tally.now }
 {
     numbers(
+        stdout,
         b"calls, accepted, refused with 8 to 14:",
         &tally[20..28],
         b"\n",
     );
-    print::text(b"compared, and of these differ\n");
-    report_writing(tally);
-    report_reading(tally);
-    report_cuts(tally);
+    print::text(stdout, b"compared, and of these differ\n");
+    report_writing(stdout, tally);
+    report_reading(stdout, tally);
+    report_cuts(stdout, tally);
 }

@@ -6,8 +6,9 @@ use crate::slices::string;
 use crate::text::is_text;
 use console::print;
 use numbers::text::is_utf8;
+use std::io::Stdout;
 
-#[derive(Drop)]
+#[derive(Clone, Copy)]
 struct Tally {
     text: usize,
     differ: usize,
@@ -46,18 +47,18 @@ fn count_all(n: usize, strings: usize) -> Tally
     t
 }
 
-fn line(n: usize, strings: usize)
+fn line(stdout: Stdout, n: usize, strings: usize)
     requires { (n ≤ 3) × (strings ≤ 16777216) }
 {
     let t = count_all(n, strings);
-    print::count(n as u64, b" bytes: ");
-    print::count(t.text as u64, b" of ");
-    print::count(strings as u64, b" strings are text, ");
-    print::count(t.differ as u64, b" verdicts differ\n");
+    print::count(stdout, n as u64, b" bytes: ");
+    print::count(stdout, t.text as u64, b" of ");
+    print::count(stdout, strings as u64, b" strings are text, ");
+    print::count(stdout, t.differ as u64, b" verdicts differ\n");
 }
 
-pub(crate) fn list() {
-    line(1, 256);
-    line(2, 65536);
-    line(3, 16777216);
+pub(crate) fn list(stdout: Stdout) {
+    line(stdout, 1, 256);
+    line(stdout, 2, 65536);
+    line(stdout, 3, 16777216);
 }

@@ -4,12 +4,13 @@ ghost use Rattle.std.specs.Prelude.{◌≤◌, length};
 
 use console::print;
 use numbers::le;
+use std::io::Stdout;
 
-fn line(width: u64, value: u64, buffer: &[u8], back: u64) {
-    print::count(width, b" ");
-    print::count(value, b": ");
-    print::bytes(buffer);
-    print::count(back, b"\n");
+fn line(stdout: Stdout, width: u64, value: u64, buffer: &[u8], back: u64) {
+    print::count(stdout, width, b" ");
+    print::count(stdout, value, b": ");
+    print::bytes(stdout, buffer);
+    print::count(stdout, back, b"\n");
 }
 
 // Bytes as a number, read plainly, the most significant first.
@@ -36,22 +37,22 @@ fn read(buffer: &[u8], width: usize) -> u64
     }
 }
 
-fn at_width(width: usize, value: u64)
+fn at_width(stdout: Stdout, width: usize, value: u64)
     requires { width ≤ 8 }
 {
     let mut buffer = [0xaa; 10];
     le::put(&mut buffer, 1, width, value);
     let back = read(&buffer, width);
-    line(width as u64, value, &buffer, back);
+    line(stdout, width as u64, value, &buffer, back);
 }
 
-pub(crate) fn list() {
+pub(crate) fn list(stdout: Stdout) {
     let mut width = 0;
     let mut largest: u64 = 0;
     while width <= 8 {
-        at_width(width, 0);
-        at_width(width, largest);
-        at_width(width, 0x0807060504030201);
+        at_width(stdout, width, 0);
+        at_width(stdout, width, largest);
+        at_width(stdout, width, 0x0807060504030201);
         width = width + 1;
         largest = largest % 0x0100000000000000 * 256 + 255;
     }

@@ -6,7 +6,7 @@ use records::position::{Position, Written};
 use trace_c::given::{Given, new_of};
 
 // 0, or the number of the refusal, or 256 where the call has no record; and the position.
-#[derive(Drop)]
+#[derive(Clone, Copy)]
 pub(crate) struct Said {
     pub(crate) number: u64,
     pub(crate) at: usize,

@@ -9,6 +9,7 @@ use crate::slices::{at, part, remainder};
 use crate::write::write;
 use console::print;
 use records::bytes::bytes;
+use std::io::Stdout;
 
 // To each example its type, its first number, where its slice lies in the pool and how many bytes it has,
 // and the position: Instruction with 253, 254, 65,530 and 65,531 bytes of content, of which the address has
@@ -64,7 +65,7 @@ fn name_frame(name: &[u8]) -> [u8; 44] {
 
 // What a reading says: the name; 0 for a record or 1 for a refusal, its number, the frame, the next
 // position.
-fn told(frame: &[u8], shown: Shown) {
+fn told(stdout: Stdout, frame: &[u8], shown: Shown) {
     let n = [
         shown.sort,
         shown.number,
@@ -72,39 +73,39 @@ fn told(frame: &[u8], shown: Shown) {
         shown.to,
         shown.next as u64,
     ];
-    print::bytes(bytes(frame, shown.part));
-    numbers(b"answer, number, from, to, next:", &n, b"\n");
+    print::bytes(stdout, bytes(frame, shown.part));
+    numbers(stdout, b"answer, number, from, to, next:", &n, b"\n");
 }
 
-fn read_name(name: &[u8]) {
+fn read_name(stdout: Stdout, name: &[u8]) {
     let frame = name_frame(name);
-    told(&frame, next(0, &frame, 0));
-    told(&frame, previous(0, &frame, 44));
+    told(stdout, &frame, next(0, &frame, 0));
+    told(stdout, &frame, previous(0, &frame, 44));
 }
 
 // What is written of a call in a form and at a place.
-pub(crate) fn written(form: u64, call: Call, slice: &[u8], from: usize) {
+pub(crate) fn written(stdout: Stdout, form: u64, call: Call, slice: &[u8], from: usize) {
     let mut out = [0xaau8; 65600];
     let said = write(form, &mut out, from, call, slice);
     let to = said.at;
     if from < to {
-        edges(part(&out, from, to - from));
+        edges(stdout, part(&out, from, to - from));
     }
     let n = [said.number, to as u64, remainder(&out)];
-    numbers(b"; says, to, remainder:", &n, b"\n");
+    numbers(stdout, b"; says, to, remainder:", &n, b"\n");
 }
 
-fn example(call: Call, slice: &[u8], from: usize) {
+fn example(stdout: Stdout, call: Call, slice: &[u8], from: usize) {
     let n = [call.t, call.a, slice.len() as u64, from as u64];
-    numbers(b"type, number, bytes, at:", &n, b"");
-    edges(slice);
-    written(0, call, slice, from);
+    numbers(stdout, b"type, number, bytes, at:", &n, b"");
+    edges(stdout, slice);
+    written(stdout, 0, call, slice, from);
     if call.t == 12 {
-        read_name(slice);
+        read_name(stdout, slice);
     }
 }
 
-pub(crate) fn list(pool: &[u8]) {
+pub(crate) fn list(stdout: Stdout, pool: &[u8]) {
     let mut i: usize = 0;
     while i < 28 {
         let n = numbers_at(i);
@@ -116,7 +117,12 @@ pub(crate) fn list(pool: &[u8]) {
             start: n[2] as usize,
             len: n[3] as usize,
         };
-        example(call, part(pool, call.start, call.len), n[4] as usize);
+        example(
+            stdout,
+            call,
+            part(pool, call.start, call.len),
+            n[4] as usize,
+        );
         i = i + 1;
     }
 }
