@@ -1,4 +1,0 @@
-pub mod Above
-pub mod Held
-pub mod Thin
-pub mod HeldIter
