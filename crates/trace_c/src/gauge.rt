@@ -63,12 +63,7 @@ fn tell(bytes: &[u8], reading: &mut [u64; 10])
     }
 }
 
-#[unsafe(no_mangle)]
-pub extern "C" fn aglimtaq_house_next(
-    bytes: &[u8],
-    position: &mut [u64; 6],
-    reading: &mut [u64; 10],
-)
+pub fn aglimtaq_house_next(bytes: &[u8], position: &mut [u64; 6], reading: &mut [u64; 10])
     ensures position_after { position.new ≡ house_place_by (house_next bytes.now) position.old (form_in position.old) }
     ensures reading_after { reading.new ≡ house_reading_by (house_next bytes.now) position.old (form_in position.old) }
 {
@@ -76,12 +71,7 @@ pub extern "C" fn aglimtaq_house_next(
     tell(bytes, reading);
 }
 
-#[unsafe(no_mangle)]
-pub extern "C" fn aglimtaq_house_previous(
-    bytes: &[u8],
-    position: &mut [u64; 6],
-    reading: &mut [u64; 10],
-)
+pub fn aglimtaq_house_previous(bytes: &[u8], position: &mut [u64; 6], reading: &mut [u64; 10])
     ensures position_after { position.new ≡ house_place_by (house_previous bytes.now) position.old (form_in position.old) }
     ensures reading_after { reading.new ≡ house_reading_by (house_previous bytes.now) position.old (form_in position.old) }
 {
@@ -103,8 +93,7 @@ fn refusal_by(numbers: [u64; 6], lent: usize, number: u8) -> u64
     }
 }
 
-#[unsafe(no_mangle)]
-pub extern "C" fn aglimtaq_house_write(out: &mut [u8], position: &mut [u64; 6], bytes: &[u8]) -> u64
+pub fn aglimtaq_house_write(out: &mut [u8], position: &mut [u64; 6], bytes: &[u8]) -> u64
     ensures value { result ≡ house_number (length out.old) position.old bytes.now (form_in position.old) }
     ensures position_after { position.new ≡ house_left (length out.old) position.old bytes.now (form_in position.old) }
     ensures out_after { out.new ≡ house_out out.old position.old bytes.now (form_in position.old) }
@@ -178,12 +167,7 @@ fn no_gauge(form: u64) -> u64
     }
 }
 
-#[unsafe(no_mangle)]
-pub extern "C" fn aglimtaq_house_write_gauge(
-    out: &mut [u8],
-    position: &mut [u64; 6],
-    gauge: &[u64; 4],
-) -> u64
+pub fn aglimtaq_house_write_gauge(out: &mut [u8], position: &mut [u64; 6], gauge: &[u64; 4]) -> u64
     ensures value { result ≡ gauge_number (length out.old) position.old (gauge_from gauge.now) (form_in position.old) }
     ensures position_after { position.new ≡ gauge_left (length out.old) position.old (gauge_from gauge.now) (form_in position.old) }
     ensures out_after { out.new ≡ gauge_out out.old position.old (gauge_from gauge.now) (form_in position.old) }

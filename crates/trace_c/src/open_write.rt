@@ -9,13 +9,7 @@ ghost use Rattle.trace_c.specs.Openings.{called_number, called_place, called_byt
 use crate::form::{Formed, NOT_A_FORM, form_of};
 use crate::place::{place_of, put_place};
 
-#[unsafe(no_mangle)]
-pub extern "C" fn aglimtaq_begin(
-    out: &mut [u8],
-    position: &mut [u64; 6],
-    address: u64,
-    stated: usize,
-) -> u64
+pub fn aglimtaq_begin(out: &mut [u8], position: &mut [u64; 6], address: u64, stated: usize) -> u64
     ensures value { result ≡ called_number (λ q. begun (length out.old) q address stated) position.old (form_in position.old) }
     ensures position_after { position.new ≡ called_place (λ q. begun (length out.old) q address stated) position.old (form_in position.old) }
     ensures out_after { out.new ≡ called_bytes (λ q. bytes_begun out.old q address stated) out.old position.old (form_in position.old) }
@@ -31,8 +25,7 @@ pub extern "C" fn aglimtaq_begin(
     }
 }
 
-#[unsafe(no_mangle)]
-pub extern "C" fn aglimtaq_portion(out: &mut [u8], position: &mut [u64; 6], bytes: &[u8]) -> u64
+pub fn aglimtaq_portion(out: &mut [u8], position: &mut [u64; 6], bytes: &[u8]) -> u64
     ensures value { result ≡ called_number (λ q. portioned (length out.old) q (length bytes.now)) position.old (form_in position.old) }
     ensures position_after { position.new ≡ called_place (λ q. portioned (length out.old) q (length bytes.now)) position.old (form_in position.old) }
     ensures out_after { out.new ≡ called_bytes (λ q. bytes_portioned out.old q bytes.now) out.old position.old (form_in position.old) }
@@ -47,8 +40,7 @@ pub extern "C" fn aglimtaq_portion(out: &mut [u8], position: &mut [u64; 6], byte
     }
 }
 
-#[unsafe(no_mangle)]
-pub extern "C" fn aglimtaq_close(out: &mut [u8], position: &mut [u64; 6]) -> u64
+pub fn aglimtaq_close(out: &mut [u8], position: &mut [u64; 6]) -> u64
     ensures value { result ≡ called_number (closed (length out.old)) position.old (form_in position.old) }
     ensures position_after { position.new ≡ called_place (closed (length out.old)) position.old (form_in position.old) }
     ensures out_after { out.new ≡ called_bytes (bytes_closed out.old) out.old position.old (form_in position.old) }
@@ -63,8 +55,7 @@ pub extern "C" fn aglimtaq_close(out: &mut [u8], position: &mut [u64; 6]) -> u64
     }
 }
 
-#[unsafe(no_mangle)]
-pub extern "C" fn aglimtaq_abandon(position: &mut [u64; 6]) -> u64
+pub fn aglimtaq_abandon(position: &mut [u64; 6]) -> u64
     ensures value { result ≡ called_number abandoned position.old (form_in position.old) }
     ensures position_after { position.new ≡ called_place abandoned position.old (form_in position.old) }
 {

@@ -16,8 +16,7 @@ use records::registers::{Names, NextName};
 // A reading refused for its form.
 const NO_FORM: [u64; 10] = [2, NOT_A_FORM, 0, 0, 0, 0, 0, 0, 0, 0];
 
-#[unsafe(no_mangle)]
-pub extern "C" fn aglimtaq_read_next(bytes: &[u8], position: &mut [u64; 6], reading: &mut [u64; 10])
+pub fn aglimtaq_read_next(bytes: &[u8], position: &mut [u64; 6], reading: &mut [u64; 10])
     ensures position_after { position.new ≡ place_by (λ q. read_next (visible bytes.now (pending_of q)) q) position.old (form_in position.old) }
     ensures reading_after { reading.new ≡ reading_by (λ q. read_next (visible bytes.now (pending_of q)) q) position.old (form_in position.old) }
 {
@@ -34,12 +33,7 @@ pub extern "C" fn aglimtaq_read_next(bytes: &[u8], position: &mut [u64; 6], read
     }
 }
 
-#[unsafe(no_mangle)]
-pub extern "C" fn aglimtaq_read_previous(
-    bytes: &[u8],
-    position: &mut [u64; 6],
-    reading: &mut [u64; 10],
-)
+pub fn aglimtaq_read_previous(bytes: &[u8], position: &mut [u64; 6], reading: &mut [u64; 10])
     ensures position_after { position.new ≡ place_by (λ q. read_previous (visible bytes.now (pending_of q)) q) position.old (form_in position.old) }
     ensures reading_after { reading.new ≡ reading_by (λ q. read_previous (visible bytes.now (pending_of q)) q) position.old (form_in position.old) }
 {
@@ -56,8 +50,7 @@ pub extern "C" fn aglimtaq_read_previous(
     }
 }
 
-#[unsafe(no_mangle)]
-pub extern "C" fn aglimtaq_parse(bytes: &[u8], base: usize, form: u64, reading: &mut [u64; 10])
+pub fn aglimtaq_parse(bytes: &[u8], base: usize, form: u64, reading: &mut [u64; 10])
     ensures { reading.new ≡ parsed_by base bytes.now (form_of form) }
 {
     match form_of(form) {
@@ -66,8 +59,7 @@ pub extern "C" fn aglimtaq_parse(bytes: &[u8], base: usize, form: u64, reading: 
     }
 }
 
-#[unsafe(no_mangle)]
-pub extern "C" fn aglimtaq_one_record(bytes: &[u8]) -> u64
+pub fn aglimtaq_one_record(bytes: &[u8]) -> u64
     ensures { result ≡ needed bytes.now }
 {
     match one_record(bytes) {
@@ -76,8 +68,7 @@ pub extern "C" fn aglimtaq_one_record(bytes: &[u8]) -> u64
     }
 }
 
-#[unsafe(no_mangle)]
-pub extern "C" fn aglimtaq_value(bytes: &[u8], part: &mut [u64; 2]) -> u64
+pub fn aglimtaq_value(bytes: &[u8], part: &mut [u64; 2]) -> u64
     ensures value { result ≡ content_number (value_of bytes.now) }
     ensures part_after { part.new ≡ flat_content (value_of bytes.now) }
 {
@@ -93,8 +84,7 @@ pub extern "C" fn aglimtaq_value(bytes: &[u8], part: &mut [u64; 2]) -> u64
     }
 }
 
-#[unsafe(no_mangle)]
-pub extern "C" fn aglimtaq_next_name(list: &[u8], at: usize, entry: &mut [u64; 4]) -> u64
+pub fn aglimtaq_next_name(list: &[u8], at: usize, entry: &mut [u64; 4]) -> u64
     ensures value { result ≡ name_number (next_name list.now (record { at = at })) }
     ensures after { entry.new ≡ flat_name (next_name list.now (record { at = at })) }
 {

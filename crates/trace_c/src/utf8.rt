@@ -4,8 +4,7 @@ ghost use Rattle.numbers.specs.Text.{utf8};
 
 use numbers::text::is_utf8;
 
-#[unsafe(no_mangle)]
-pub extern "C" fn aglimtaq_is_utf8(bytes: &[u8]) -> u64
+pub fn aglimtaq_is_utf8(bytes: &[u8]) -> u64
     ensures { result ≡ cond (utf8 bytes.now) 1 0 }
 {
     if is_utf8(bytes) { 1 } else { 0 }

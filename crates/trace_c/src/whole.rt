@@ -9,8 +9,7 @@ use crate::form::{Formed, NOT_A_FORM, form_of};
 use walk::count::count;
 use walk::walk::{walk, walk_back};
 
-#[unsafe(no_mangle)]
-pub extern "C" fn aglimtaq_count(bytes: &[u8], end: &mut u64) -> u64
+pub fn aglimtaq_count(bytes: &[u8], end: &mut u64) -> u64
     ensures value { result ≡ (count_of bytes.now).records }
     ensures end_after { end.new ≡ (count_of bytes.now).end }
 {
@@ -19,8 +18,7 @@ pub extern "C" fn aglimtaq_count(bytes: &[u8], end: &mut u64) -> u64
     counted.records as u64
 }
 
-#[unsafe(no_mangle)]
-pub extern "C" fn aglimtaq_walk(
+pub fn aglimtaq_walk(
     bytes: &[u8],
     form: u64,
     counts: &mut [u64; 8],
@@ -44,8 +42,7 @@ pub extern "C" fn aglimtaq_walk(
     }
 }
 
-#[unsafe(no_mangle)]
-pub extern "C" fn aglimtaq_walk_back(
+pub fn aglimtaq_walk_back(
     bytes: &[u8],
     form: u64,
     counts: &mut [u64; 8],

@@ -20,8 +20,7 @@ pub(crate) fn number_of(verdict: Verdict) -> u64
     }
 }
 
-#[unsafe(no_mangle)]
-pub extern "C" fn aglimtaq_write(
+pub fn aglimtaq_write(
     out: &mut [u8],
     position: &mut [u64; 6],
     record: &[u64; 4],
