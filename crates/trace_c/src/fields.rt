@@ -14,7 +14,7 @@ use records::position::Answer;
 use records::record::{FileMeta, Meta, Record};
 
 // A record: its type's number, its numbers, and where its bytes lie.
-#[derive(Drop)]
+#[derive(Clone, Copy)]
 pub struct Fields {
     pub type_number: u64,
     pub a: u64,

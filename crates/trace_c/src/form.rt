@@ -8,7 +8,7 @@ use records::address::AddressForm;
 pub(crate) const NOT_A_FORM: u64 = 257;
 
 // One of the four forms, or none of them.
-#[derive(Drop)]
+#[derive(Clone, Copy)]
 pub enum Formed {
     Form(AddressForm),
     Nothing,

@@ -108,7 +108,7 @@ pub fn aglimtaq_house_write(out: &mut [u8], position: &mut [u64; 6], bytes: &[u8
 }
 
 // The house reading, or none where its type is none of the three or its value does not fit.
-#[derive(Drop)]
+#[derive(Clone, Copy)]
 pub enum GivenGauge {
     Gauge(Gauge),
     Nothing,

@@ -12,7 +12,7 @@ use records::new_record::{NewFileMeta, NewMeta, NewRecord};
 use records::record::{NativeRegister, Register};
 
 // The record, or none where its type is not written or a number does not fit.
-#[derive(Drop)]
+#[derive(Clone, Copy)]
 pub enum Given {
     Record(NewRecord),
     Nothing,
