@@ -1,0 +1,24 @@
+-- `tracelist::listing::list_by` meets its contract. The loop's invariant: after the bytes that were written, the listing goes on with what
+-- is listed from the offset on. Each piece leaves less to list, so the number of bytes does not overflow.
+-- Assumes nothing.
+use mathlib.Core.Path.{◌≡◌, refl, sym, ◌∙◌}
+use mathlib.Core.Bool.{false≢true}
+use mathlib.Core.List.{◌++◌}
+use Prim.Native.Nat.{◌+◌, ◌*◌, ◌≤◌}
+use native.Mathlib.Omega.{arith}
+use borrow.Author.Rules.{rules}
+use lib.ListN.{length, take, drop}
+use Rattle.tracelist.specs.Listing.{listing}
+use Rattle.tracelist.specs.Inner.{rest, left}
+use Rattle.tracelist.proofs.LineLaws.{listed_first}
+use Rattle.tracelist.proofs.PieceLaws.{piece_part, piece_rest, piece_within, piece_last}
+use Rattle.tracelist.proofs.listing.list_by.Given as goal
+
+abbrev pub invariant-loop-more : goal.invariant-loop-more
+invariant-loop-more l =
+    (drop l.written (listing l.s) ≡ rest l.s l.at l.more)
+    × (length l.out ≡ length l.initial.out) × (l.at ≤ length l.s) × (l.written ≤ length (listing l.s))
+    × (l.written + 65536 * left l.s l.at l.more ≤ 65536 * (1 + length l.s))
+
+abbrev pub decreases-loop-more : goal.decreases-loop-more
+decreases-loop-more l = left l.s l.at l.more
