@@ -10,11 +10,14 @@ put_frame-end-requires c =
     let pre = c.requires in
     let most = frame_most a.kind a.content.now in
     let least = limit_least a.kind in
-    ((pre.0, omega (arith, least)), omega (arith, most, c.blank-buffer.ensures))
+    record {
+      kind_value = (pre.0, omega (arith, least));
+      content_in_bounds = omega (arith, most, c.blank-buffer.ensures);
+    }
 
 pub back-requires : goal.back-requires
 back-requires c =
     let start = c in
     let most = frame_most start.args.kind start.args.content.now in
     let put = c.put_frame-end.ensures in
-    (omega (arith, put.0), omega (arith, most, put.0))
+    (omega (arith, put.value), omega (arith, most, put.value))

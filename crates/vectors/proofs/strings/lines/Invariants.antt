@@ -4,7 +4,7 @@ use Rattle.std.proofs.Common.{◌-◌, ◌≤◌, length, arith, rules}
 use Rattle.vectors.proofs.strings.lines.Given as goal
 
 abbrev pub invariant-loop-at : goal.invariant-loop-at
-invariant-loop-at l = l.at ≤ length l.stdout
+invariant-loop-at l = l.at ≤ length l.s
 
 abbrev pub decreases-loop-at : goal.decreases-loop-at
-decreases-loop-at l = length l.stdout - l.at
+decreases-loop-at l = length l.s - l.at
