@@ -1,4 +1,5 @@
-// Standard input of the programs, and of those that list a trace, 65,536 bytes at most: document 01, "Listing".
+// Standard input: what programs read it with, and for those that list a trace, 65,536 bytes at most, whether what was
+// read is all of it: document 01, "Listing".
 ghost use Rattle.std.specs.Prelude.{◌≤◌, length};
 
 use crate::failure::{say_unread, say_unwritten};
