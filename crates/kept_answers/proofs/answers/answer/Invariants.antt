@@ -1,6 +1,5 @@
 -- `kept_answers::answers::answer` is safe and ends: the count of records left falls.
 -- Assumes nothing.
-use Rattle.std.proofs.Common.{rules}
 use Rattle.kept_answers.proofs.answers.answer.Given as goal
 
 abbrev pub invariant-loop-left : goal.invariant-loop-left

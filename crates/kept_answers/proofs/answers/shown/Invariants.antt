@@ -1,6 +1,6 @@
 -- `kept_answers::answers::shown` is safe and ends: six numbers of the ten.
 -- Assumes nothing.
-use Rattle.std.proofs.Common.{◌-◌, ◌≤◌, rules}
+use Rattle.std.proofs.Common.{◌-◌, ◌≤◌}
 use Rattle.kept_answers.proofs.answers.shown.Given as goal
 
 abbrev pub invariant-loop-i : goal.invariant-loop-i

@@ -1,6 +1,6 @@
 -- `kept_answers::input::decimal` is safe and ends: the offset grows up to the end of the line.
 -- Assumes nothing.
-use Rattle.std.proofs.Common.{◌-◌, ◌≤◌, length, rules}
+use Rattle.std.proofs.Common.{◌-◌, ◌≤◌, length}
 use Rattle.kept_answers.proofs.input.decimal.Given as goal
 
 abbrev pub invariant-loop-i : goal.invariant-loop-i

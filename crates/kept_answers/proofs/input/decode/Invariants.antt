@@ -1,6 +1,6 @@
 -- `kept_answers::input::decode` is safe and ends: what is held fits the buffer.
 -- Assumes nothing.
-use Rattle.std.proofs.Common.{◌≡◌, ◌-◌, ◌≤◌, length, rules}
+use Rattle.std.proofs.Common.{◌≡◌, ◌-◌, ◌≤◌, length}
 use Rattle.kept_answers.proofs.input.decode.Given as goal
 
 abbrev pub invariant-loop-at : goal.invariant-loop-at

@@ -1,6 +1,6 @@
 -- `kept_answers::input::fill` is safe and ends: as many bytes as before.
 -- Assumes nothing.
-use Rattle.std.proofs.Common.{◌≡◌, ◌+◌, ◌-◌, ◌≤◌, length, arith, length-set, rules}
+use Rattle.std.proofs.Common.{◌≡◌, ◌+◌, ◌-◌, ◌≤◌, length}
 use Rattle.kept_answers.proofs.input.fill.Given as goal
 
 abbrev pub invariant-loop-i : goal.invariant-loop-i

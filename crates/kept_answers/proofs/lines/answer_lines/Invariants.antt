@@ -1,6 +1,6 @@
 -- `kept_answers::lines::answer_lines` is safe and ends: each line lies within the text.
 -- Assumes nothing.
-use Rattle.std.proofs.Common.{◌≡◌, ◌-◌, length, rules}
+use Rattle.std.proofs.Common.{◌≡◌, ◌-◌, length}
 use Rattle.kept_answers.proofs.lines.answer_lines.Given as goal
 
 abbrev pub invariant-loop-at : goal.invariant-loop-at

@@ -1,6 +1,5 @@
 -- `kept_answers::names::names` is safe and ends: the count of names left falls.
 -- Assumes nothing.
-use Rattle.std.proofs.Common.{rules}
 use Rattle.kept_answers.proofs.names.names.Given as goal
 
 abbrev pub invariant-loop-left : goal.invariant-loop-left

@@ -1,6 +1,5 @@
 -- `kept_answers::tokens::each` ends: what is left falls.
 -- Assumes nothing.
-use Rattle.std.proofs.Common.{rules}
 use Rattle.kept_answers.proofs.tokens.each.Given as goal
 
 abbrev pub invariant-loop-left : goal.invariant-loop-left

@@ -1,6 +1,6 @@
 -- `kept_answers::tokens::run_from` is safe and ends: the run has at least one byte, and lies within the slice.
 -- Assumes nothing.
-use Rattle.std.proofs.Common.{◌-◌, ◌<◌, ◌≤◌, length, rules}
+use Rattle.std.proofs.Common.{◌-◌, ◌<◌, ◌≤◌, length}
 use Rattle.kept_answers.proofs.tokens.run_from.Given as goal
 
 abbrev pub invariant-loop-i : goal.invariant-loop-i

@@ -1,6 +1,6 @@
 -- `kept_answers::tokens::tokens` is safe and ends: each run takes bytes, and lies within them.
 -- Assumes nothing.
-use Rattle.std.proofs.Common.{◌-◌, ◌≤◌, length, rules}
+use Rattle.std.proofs.Common.{◌-◌, ◌≤◌, length}
 use Rattle.kept_answers.proofs.tokens.tokens.Given as goal
 
 abbrev pub invariant-loop-at : goal.invariant-loop-at

@@ -8,7 +8,7 @@ use Rattle.records.specs.declared.address.AddressForm.{AddressForm}
 use Rattle.records.specs.declared.position.Position.{Position}
 use Rattle.records.specs.declared.position.Reading.{Reading}
 use Rattle.records.specs.Positions.{here, pending_of, visible, read_next}
-use Rattle.rawlist.proofs.StepLaws.{next-within, left, left_less}
+use Rattle.rawlist.proofs.StepLaws.{next-within, left_less}
 use Rattle.rawlist.proofs.listing.list.Goals as goal
 use Rattle.rawlist.proofs.listing.list.Goals.{After-position-1}
 

@@ -2,7 +2,6 @@
 -- Assumes nothing.
 use mathlib.Core.Path.{sym, ap, subst, ◌∙◌}
 use native.Mathlib.Omega.{arith}
-use borrow.Author.Rules.{rules}
 use Rattle.records.specs.declared.address.AddressForm.{AddressForm}
 use Rattle.records.specs.declared.position.Found.{Found}
 use Rattle.records.proofs.AheadLaws.{Ahead, next-ahead}

@@ -1,6 +1,5 @@
 -- `tracelist::line::record_line` meets its contract: the kind is that of the byte where the record starts.
 -- Assumes nothing.
-use borrow.Author.Rules.{rules}
 use Rattle.tracelist.specs.Listing.{record_line}
 use Rattle.tracelist.proofs.line.record_line.Goals as goal
 

@@ -1,15 +1,12 @@
 -- `tracelist::listing::fill` meets its contract. The loop's invariant: what the buffer holds and what is listed after it are what is
 -- listed from the first offset on; where it holds something, less is left to list.
 -- Assumes nothing.
-use mathlib.Core.Path.{◌≡◌, refl, ◌∙◌}
-use mathlib.Core.Bool.{true}
+use mathlib.Core.Path.{refl, ◌∙◌}
 use mathlib.Core.List.{◌++◌}
-use Prim.Native.Nat.{◌≤◌, ◌<◌}
 use native.Mathlib.Omega.{arith}
-use borrow.Author.Rules.{rules}
 use borrow.Author.Tests.{leb-true, leb-false}
-use lib.ListN.{length, take}
-use Rattle.tracelist.specs.Inner.{listed_from, rest, left}
+use lib.ListN.{take}
+use Rattle.tracelist.specs.Inner.{listed_from}
 use Rattle.tracelist.proofs.listing.fill.Goals as goal
 
 pub loop-more-init : goal.loop-more-init

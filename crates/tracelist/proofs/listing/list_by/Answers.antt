@@ -4,12 +4,10 @@
 use mathlib.Core.Path.{◌≡◌, refl, sym, ◌∙◌}
 use mathlib.Core.Bool.{false≢true}
 use mathlib.Core.List.{◌++◌}
-use Prim.Native.Nat.{◌+◌, ◌*◌, ◌≤◌}
 use native.Mathlib.Omega.{arith}
-use borrow.Author.Rules.{rules}
-use lib.ListN.{length, take, drop}
+use lib.ListN.{take, drop}
 use Rattle.tracelist.specs.Listing.{listing}
-use Rattle.tracelist.specs.Inner.{rest, left}
+use Rattle.tracelist.specs.Inner.{rest}
 use Rattle.tracelist.proofs.LineLaws.{listed_first}
 use Rattle.tracelist.proofs.PieceLaws.{piece_part, piece_rest, piece_within, piece_last}
 use Rattle.tracelist.proofs.listing.list_by.Goals as goal

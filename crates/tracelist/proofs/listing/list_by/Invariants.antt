@@ -1,17 +1,11 @@
 -- `tracelist::listing::list_by` meets its contract. The loop's invariant: after the bytes that were written, the listing goes on with what
 -- is listed from the offset on. Each piece leaves less to list, so the number of bytes does not overflow.
 -- Assumes nothing.
-use mathlib.Core.Path.{◌≡◌, refl, sym, ◌∙◌}
-use mathlib.Core.Bool.{false≢true}
-use mathlib.Core.List.{◌++◌}
+use mathlib.Core.Path.{◌≡◌}
 use Prim.Native.Nat.{◌+◌, ◌*◌, ◌≤◌}
-use native.Mathlib.Omega.{arith}
-use borrow.Author.Rules.{rules}
-use lib.ListN.{length, take, drop}
+use lib.ListN.{length, drop}
 use Rattle.tracelist.specs.Listing.{listing}
 use Rattle.tracelist.specs.Inner.{rest, left}
-use Rattle.tracelist.proofs.LineLaws.{listed_first}
-use Rattle.tracelist.proofs.PieceLaws.{piece_part, piece_rest, piece_within, piece_last}
 use Rattle.tracelist.proofs.listing.list_by.Given as goal
 
 abbrev pub invariant-loop-more : goal.invariant-loop-more

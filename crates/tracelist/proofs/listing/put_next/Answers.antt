@@ -1,7 +1,6 @@
 -- `tracelist::listing::put_next` meets its contract: the line and what is listed after it are what is listed from the offset on.
 -- Assumes nothing.
 use native.Mathlib.Omega.{arith}
-use borrow.Author.Rules.{rules}
 use Rattle.tracelist.proofs.LineLaws.{Runs, line_is, put_listed}
 use Rattle.tracelist.proofs.listing.put_next.Goals as goal
 

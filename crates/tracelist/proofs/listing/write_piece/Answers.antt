@@ -1,7 +1,6 @@
 -- `tracelist::listing::write_piece` is safe: what is held is a part of the buffer.
 -- Assumes nothing.
 use mathlib.Core.Path.{sym}
-use borrow.Author.Rules.{rules}
 use lib.Seq.{length-take-le}
 use Rattle.tracelist.proofs.listing.write_piece.Goals as goal
 

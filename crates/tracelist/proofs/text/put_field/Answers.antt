@@ -4,7 +4,6 @@ use mathlib.Core.Path.{refl}
 use mathlib.Core.List.{[], ◌∷◌}
 use Prim.Native.Nat.{◌+◌}
 use native.Mathlib.Omega.{arith}
-use borrow.Author.Rules.{rules}
 use Rattle.numbers.proofs.SpliceLaws.{Put, wrote, put_put, set_is_splice}
 use Rattle.tracelist.proofs.text.put_field.Goals as goal
 

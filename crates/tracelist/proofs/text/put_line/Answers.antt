@@ -1,6 +1,5 @@
 -- `tracelist::text::put_line` meets its contract: each kind of line by its own function.
 -- Assumes nothing.
-use borrow.Author.Rules.{rules}
 use Rattle.tracelist.proofs.text.put_line.Goals as goal
 
 pub returns-in-Record : goal.returns-in-Record

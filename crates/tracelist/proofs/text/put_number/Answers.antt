@@ -3,7 +3,6 @@
 use mathlib.Core.Path.{◌≡◌, ap, ◌∙◌}
 use mathlib.Core.List.{[], ◌∷◌}
 use native.Mathlib.Omega.{arith}
-use borrow.Author.Rules.{rules}
 use lib.ListN.{length, take, length-append}
 use Rattle.tracelist.specs.Listing.{decimal}
 use Rattle.tracelist.proofs.DigitLaws.{digits_decimal, length-decimal}

@@ -1,6 +1,6 @@
 -- `vectors::call_lists::lists` is safe and ends: a list less is left.
 -- Assumes nothing.
-use Rattle.std.proofs.Common.{◌≡◌, ◌-◌, length, rules}
+use Rattle.std.proofs.Common.{◌≡◌, ◌-◌, length}
 use Rattle.vectors.proofs.call_lists.lists.Given as goal
 
 abbrev pub invariant-loop-i : goal.invariant-loop-i

@@ -1,6 +1,6 @@
 -- `vectors::call_lists::write_all` is safe and ends: a call less is left.
 -- Assumes nothing.
-use Rattle.std.proofs.Common.{◌≡◌, ◌-◌, length, rules}
+use Rattle.std.proofs.Common.{◌≡◌, ◌-◌, length}
 use Rattle.vectors.proofs.call_lists.write_all.Given as goal
 
 abbrev pub invariant-loop-i : goal.invariant-loop-i

@@ -1,6 +1,6 @@
 -- `vectors::copies::lines` is safe and ends: the prefix grows to the whole slice.
 -- Assumes nothing.
-use Rattle.std.proofs.Common.{◌+◌, ◌-◌, ◌≤◌, length, arith, length-take, rules}
+use Rattle.std.proofs.Common.{arith, length-take}
 use Rattle.vectors.proofs.copies.lines.Goals as goal
 
 pub slice_bounds-line-end : goal.slice_bounds-line-end

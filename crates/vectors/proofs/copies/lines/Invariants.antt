@@ -1,6 +1,6 @@
 -- `vectors::copies::lines` is safe and ends: the prefix grows to the whole slice.
 -- Assumes nothing.
-use Rattle.std.proofs.Common.{◌+◌, ◌-◌, ◌≤◌, length, arith, length-take, rules}
+use Rattle.std.proofs.Common.{◌+◌, ◌-◌, ◌≤◌, length}
 use Rattle.vectors.proofs.copies.lines.Given as goal
 
 abbrev pub invariant-loop-n : goal.invariant-loop-n

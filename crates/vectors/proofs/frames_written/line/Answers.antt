@@ -1,6 +1,6 @@
 -- `vectors::frames_written::line` is safe and ends: the frame lies within the buffer.
 -- Assumes nothing.
-use Rattle.std.proofs.Common.{arith, rules}
+use Rattle.std.proofs.Common.{arith}
 use Rattle.frames.proofs.FormLaws.{limit_least, frame_most}
 use Rattle.vectors.proofs.frames_written.line.Goals as goal
 

@@ -1,6 +1,6 @@
 -- `vectors::lines::numbers` is safe and ends: the place grows to the end.
 -- Assumes nothing.
-use Rattle.std.proofs.Common.{◌-◌, ◌≤◌, length, rules}
+use Rattle.std.proofs.Common.{◌-◌, ◌≤◌, length}
 use Rattle.vectors.proofs.lines.numbers.Given as goal
 
 abbrev pub invariant-loop-i : goal.invariant-loop-i

@@ -1,6 +1,6 @@
 -- `vectors::random::number` is safe and ends: a number of eight bytes fits.
 -- Assumes nothing.
-use Rattle.std.proofs.Common.{◌-◌, rules}
+use Rattle.std.proofs.Common.{◌-◌}
 use Rattle.vectors.proofs.random.number.Given as goal
 
 abbrev pub invariant-loop-i : goal.invariant-loop-i

@@ -1,6 +1,6 @@
 -- `vectors::readings::read_all` is safe and ends: every cut before the end.
 -- Assumes nothing.
-use Rattle.std.proofs.Common.{◌≡◌, ◌-◌, ◌≤◌, length, rules}
+use Rattle.std.proofs.Common.{◌≡◌, ◌-◌, ◌≤◌, length}
 use Rattle.vectors.proofs.readings.read_all.Given as goal
 
 abbrev pub invariant-loop-k : goal.invariant-loop-k

@@ -1,6 +1,6 @@
 -- `vectors::readings::read_back` is safe and ends: every record of the book is compared.
 -- Assumes nothing.
-use Rattle.std.proofs.Common.{◌≡◌, length, rules}
+use Rattle.std.proofs.Common.{◌≡◌, length}
 use Rattle.vectors.proofs.readings.read_back.Given as goal
 
 abbrev pub invariant-loop-left : goal.invariant-loop-left

@@ -1,6 +1,6 @@
 -- `vectors::readings::read_on` is safe and ends: no record after the last of the book is looked for.
 -- Assumes nothing.
-use Rattle.std.proofs.Common.{◌≡◌, ◌-◌, ◌<◌, length, rules}
+use Rattle.std.proofs.Common.{◌≡◌, ◌-◌, ◌<◌, length}
 use Rattle.vectors.proofs.readings.read_on.Given as goal
 
 abbrev pub invariant-loop-i : goal.invariant-loop-i

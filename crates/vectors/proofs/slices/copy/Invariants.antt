@@ -1,6 +1,6 @@
 -- `vectors::slices::copy` is safe and ends: as many bytes as before.
 -- Assumes nothing.
-use Rattle.std.proofs.Common.{◌≡◌, ◌-◌, ◌≤◌, length, arith, length-set, rules}
+use Rattle.std.proofs.Common.{◌≡◌, ◌-◌, ◌≤◌, length}
 use Rattle.vectors.proofs.slices.copy.Given as goal
 
 abbrev pub invariant-loop-i : goal.invariant-loop-i

@@ -1,6 +1,6 @@
 -- `vectors::slices::remainder` is safe and ends: a remainder with one byte more fits.
 -- Assumes nothing.
-use Rattle.std.proofs.Common.{◌-◌, ◌<◌, ◌≤◌, length, arith, rules}
+use Rattle.std.proofs.Common.{arith}
 use Rattle.vectors.proofs.slices.remainder.Goals as goal
 
 pub overflow_cast-r : goal.overflow_cast-r

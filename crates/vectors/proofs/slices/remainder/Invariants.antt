@@ -1,6 +1,6 @@
 -- `vectors::slices::remainder` is safe and ends: a remainder with one byte more fits.
 -- Assumes nothing.
-use Rattle.std.proofs.Common.{◌-◌, ◌<◌, ◌≤◌, length, arith, rules}
+use Rattle.std.proofs.Common.{◌-◌, ◌<◌, ◌≤◌, length}
 use Rattle.vectors.proofs.slices.remainder.Given as goal
 
 abbrev pub invariant-loop-i : goal.invariant-loop-i

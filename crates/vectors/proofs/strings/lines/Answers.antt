@@ -1,6 +1,6 @@
 -- `vectors::strings::lines` is safe and ends: each string lies within the input.
 -- Assumes nothing.
-use Rattle.std.proofs.Common.{◌-◌, ◌≤◌, length, arith, rules}
+use Rattle.std.proofs.Common.{arith}
 use Rattle.vectors.proofs.strings.lines.Goals as goal
 
 pub overflow_cast-n : goal.overflow_cast-n

@@ -1,6 +1,6 @@
 -- `vectors::strings::lines` is safe and ends: each string lies within the input.
 -- Assumes nothing.
-use Rattle.std.proofs.Common.{◌-◌, ◌≤◌, length, arith, rules}
+use Rattle.std.proofs.Common.{◌-◌, ◌≤◌, length}
 use Rattle.vectors.proofs.strings.lines.Given as goal
 
 abbrev pub invariant-loop-at : goal.invariant-loop-at

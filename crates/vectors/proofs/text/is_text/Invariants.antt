@@ -1,6 +1,6 @@
 -- `vectors::text::is_text` is safe and ends: each character lies within the slice.
 -- Assumes nothing.
-use Rattle.std.proofs.Common.{◌-◌, ◌≤◌, length, rules}
+use Rattle.std.proofs.Common.{◌-◌, ◌≤◌, length}
 use Rattle.vectors.proofs.text.is_text.Given as goal
 
 abbrev pub invariant-loop-i : goal.invariant-loop-i

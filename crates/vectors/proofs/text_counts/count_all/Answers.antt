@@ -1,6 +1,6 @@
 -- `vectors::text_counts::count_all` is safe and ends: neither count passes the number of strings seen.
 -- Assumes nothing.
-use Rattle.std.proofs.Common.{◌-◌, ◌≤◌, arith, length-take, rules}
+use Rattle.std.proofs.Common.{arith, length-take}
 use Rattle.vectors.proofs.text_counts.count_all.Goals as goal
 
 pub slice_bounds-is_utf8-end : goal.slice_bounds-is_utf8-end

@@ -1,6 +1,6 @@
 -- `vectors::text_counts::count_all` is safe and ends: neither count passes the number of strings seen.
 -- Assumes nothing.
-use Rattle.std.proofs.Common.{◌-◌, ◌≤◌, arith, length-take, rules}
+use Rattle.std.proofs.Common.{◌-◌, ◌≤◌}
 use Rattle.vectors.proofs.text_counts.count_all.Given as goal
 
 abbrev pub invariant-loop-i : goal.invariant-loop-i

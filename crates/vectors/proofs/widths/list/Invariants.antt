@@ -1,6 +1,6 @@
 -- `vectors::widths::list` is safe and ends: no width passes 8.
 -- Assumes nothing.
-use Rattle.std.proofs.Common.{◌-◌, ◌≤◌, rules}
+use Rattle.std.proofs.Common.{◌-◌, ◌≤◌}
 use Rattle.vectors.proofs.widths.list.Given as goal
 
 abbrev pub invariant-loop-width : goal.invariant-loop-width

@@ -1,6 +1,6 @@
 -- `vectors::widths::plain` is safe and ends: each place lies within the slice.
 -- Assumes nothing.
-use Rattle.std.proofs.Common.{◌-◌, ◌≤◌, length, arith, rules}
+use Rattle.std.proofs.Common.{◌-◌, arith}
 use Rattle.vectors.proofs.widths.plain.Goals as goal
 
 pub overflow_cast-value : goal.overflow_cast-value

@@ -1,6 +1,6 @@
 -- `vectors::widths::plain` is safe and ends: each place lies within the slice.
 -- Assumes nothing.
-use Rattle.std.proofs.Common.{◌-◌, ◌≤◌, length, arith, rules}
+use Rattle.std.proofs.Common.{◌≤◌, length}
 use Rattle.vectors.proofs.widths.plain.Given as goal
 
 abbrev pub invariant-loop-left : goal.invariant-loop-left

@@ -1,6 +1,6 @@
 -- `vectors::write_examples::list` is safe and ends: an example less is left.
 -- Assumes nothing.
-use Rattle.std.proofs.Common.{◌-◌, ◌≤◌, rules}
+use Rattle.std.proofs.Common.{◌-◌, ◌≤◌}
 use Rattle.vectors.proofs.write_examples.list.Given as goal
 
 abbrev pub invariant-loop-i : goal.invariant-loop-i

@@ -1,6 +1,6 @@
 -- `vectors::write_examples::name_frame` is safe and ends: the name lies within the frame.
 -- Assumes nothing.
-use Rattle.std.proofs.Common.{◌≡◌, ◌-◌, ◌≤◌, length, arith, length-set, rules}
+use Rattle.std.proofs.Common.{◌≡◌, ◌-◌, ◌≤◌, length}
 use Rattle.vectors.proofs.write_examples.name_frame.Given as goal
 
 abbrev pub invariant-loop-i : goal.invariant-loop-i
