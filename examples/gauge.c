@@ -1,7 +1,7 @@
 /* Lists what the gauges of a motorcycle show in a trace, one line for each house record: the tick, and the fuel, the
  * distance left or the reserve lamp. Other records are passed over. The addresses of the trace are in LE64.
  *
- * From the repository's folder, after `rt staticlib trace_c`:
+ * From the repository's folder, after `tools/build trace_c_c`:
  *
  *     cc -Iinclude examples/gauge.c target/staticlib/libtrace_c.a -o gauge && ./gauge samples/ride.trace
  *

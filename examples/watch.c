@@ -1,7 +1,7 @@
 /* Reads a trace while a record of it is still being written. One side records, and opens a MEM_WRITE of which the bytes
  * come in three portions. The other side reads after each step, with a copy of the recorder's position.
  *
- * From the repository's folder, after `rt staticlib trace_c`:
+ * From the repository's folder, after `tools/build trace_c_c`:
  *
  *     cc -Iinclude examples/watch.c target/staticlib/libtrace_c.a -o watch && ./watch
  *

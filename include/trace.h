@@ -1,7 +1,8 @@
 /*
  * Reading and writing execution traces, from C or any language that can call C.
  *
- * Link with the archive libtrace_c.a. Of every function here it is proved, for all bytes and all numbers:
+ * Link with the archive libtrace_c.a, which `tools/build trace_c_c` puts into target/staticlib. Of every function here
+ * it is proved, for all bytes and all numbers:
  *
  * - It ends.
  * - It reads the bytes that it is lent and no others.
