@@ -68,8 +68,8 @@ fn long(s: &[u8]) -> bool
     block(s, last)
 }
 
-// Whether all of s is text. Fewer bytes are filled up with zero bytes, which are characters of their own. That it then
-// calls itself keeps the compiler from making it a part of its callers, which would be slower where s is ASCII.
+// Whether all of s is text. Fewer bytes are filled up with zero bytes, which are characters of their own; then it calls
+// itself.
 pub(crate) fn by_blocks(s: &[u8]) -> bool
     ensures { result ≡ utf8 s.now }
 {
