@@ -14,10 +14,17 @@ use console::input::read_full;
 use console::print;
 use lines::answer_lines;
 
+// Room for the bytes of an input, and for a record that is written.
+const ROOM: usize = 66048;
+
+// How many bytes of lines are read at most.
+const MOST: usize = 393216;
+
 fn main(rt: HostRuntime) {
+    // One byte more tells whether there are too many.
     let mut space = [0u8; 393217];
     let n = read_full(rt.stdin(), &mut space);
-    if n > 393216 {
+    if n > MOST {
         print::text(rt.stdout(), b"too long\n");
     } else {
         answer_lines(rt.stdout(), &space[..n]);

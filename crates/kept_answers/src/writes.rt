@@ -1,4 +1,5 @@
 // A line that asks for a record to be written, `w TYPE N0 N1 N2 BYTES`: the bytes that are written.
+use crate::ROOM;
 use crate::input::{decode, wide_number};
 use crate::tokens::tokens;
 use console::print;
@@ -7,51 +8,38 @@ use trace_c::aglimtaq_write;
 
 // What aglimtaq_write leaves of the record in an output that has room.
 fn written(stdout: Stdout, record: &[u64; 4], bytes: &[u8], form: u64) {
-    let mut out = [0u8; 66048];
+    // No function allocates, so the room is fixed, and the position says how much of it is written.
+    let mut out = [0u8; ROOM];
     let mut position = [0, form, 0, 0, 0, 0];
+
+    // C's number of a refusal, or 0.
     let refused = aglimtaq_write(&mut out, &mut position, record, bytes);
     if refused != 0 {
         return print::labelled(stdout, b"refused ", refused);
     }
-    let end = position[0] as usize;
-    if out.len() < end {
-        return print::text(stdout, b"beyond the output");
-    }
-    tokens(stdout, &out[..end]);
-}
-
-// The four numbers of a line, each after a space; and the offset after them.
-#[derive(Drop)]
-struct Numbers {
-    record: [u64; 4],
-    end: usize,
-}
-
-fn asked(line: &[u8]) -> Numbers {
-    let t = wide_number(line, 1);
-    let a = wide_number(line, t.end);
-    let b = wide_number(line, a.end);
-    let c = wide_number(line, b.end);
-    Numbers {
-        record: [t.value, a.value, b.value, c.value],
-        end: c.end,
+    match out.get(..position[0] as usize) {
+        Some(record) => tokens(stdout, record),
+        None => print::text(stdout, b"beyond the output"),
     }
 }
 
-// The bytes of the record that a line asks for. What the record holds is decoded into the lent bytes.
-pub fn write_line(stdout: Stdout, line: &[u8], bytes: &mut [u8], form: u64) {
-    let found = asked(line);
-    let record = found.record;
-    let end = found.end;
-    if line.len() <= end {
-        return print::text(stdout, b"not an input");
+// The four numbers that follow a `w`, each after a space, and the text after them.
+fn asked(text: &[u8]) -> ([u64; 4], &[u8]) {
+    let mut record = [0; 4];
+    let mut rest = text;
+    for number in &mut record {
+        let (value, after) = wide_number(rest);
+        *number = value;
+        rest = after;
     }
-    let from = end + 1;
-    let input = decode(&line[from..], bytes);
-    let count = input.count;
-    if input.good {
-        written(stdout, &record, &bytes[..count], form);
-    } else {
-        print::text(stdout, b"not an input");
-    }
+    (record, rest)
+}
+
+// The bytes of the record that the text after a `w` asks for. What the record holds is decoded into the lent bytes.
+// There is no answer where the text holds no input.
+pub fn write_line(stdout: Stdout, text: &[u8], bytes: &mut [u8], form: u64) -> Option<()> {
+    let (record, rest) = asked(text);
+    let (_, line) = rest.split_first()?;
+    written(stdout, &record, decode(line, bytes)?, form);
+    Some(())
 }

@@ -5,6 +5,7 @@ pub mod BelowLaws
 pub mod TextLaws
 pub mod GrammarLaws
 pub mod Rules
+pub mod HalvesLaws
 pub mod HighestLaws
 pub mod LeadLaws
 pub mod BlockLaws

@@ -1,18 +1,19 @@
 -- The laws of numbers in bytes, each once over the width and the order of the bytes. Assumes nothing.
 use mathlib.Core.Path.{◌≡◌, refl, sym, ap, ap₂, ◌∙◌}
-use mathlib.Core.List.{List, [], ◌∷◌, ◌++◌, reverse, reverse_aux, reverse-append, reverse-reverse}
+use mathlib.Core.List.{List, [], ◌∷◌, append-nil, reverse, reverse_aux, reverse-reverse}
 use Prim.Native.Nat.{ℕ, zero, suc, ◌+◌, ◌-◌, ◌*◌, ◌/◌, ◌%◌, ◌^◌, ◌≤◌, ◌<◌}
-use native.Mathlib.Nat.{zero-add, add-zero, suc-add, one-mul, mul_assoc, pow-zero, pow-suc, pow-succ', div-one, mod-eq_of_lt, div-div-eq-div-mul, div-lt_iff_lt-mul, one-le-pow}
+use native.Mathlib.Nat.{zero-add, add-zero, pow-zero, pow-suc, pow-succ', div-one, mod-eq_of_lt, div-div-eq-div-mul, div-lt_iff_lt-mul, one-le-pow}
 use native.Mathlib.Omega.{arith}
 use lib.Arith.{mod-mul}
 use lib.Dec.{lit<}
-use lib.ListN.{length, take, get_or, set, length-reverse}
-use lib.Seq.{drop-cons, take-add, take-length, take-take, length-take-le}
+use lib.ListN.{length, take, get_or, set, length-reverse, drop_of_length-le}
+use lib.Seq.{take_all, drop-cons}
+use Rattle.std.specs.Int.{byte_at, bytes_low_first}
 use Rattle.numbers.specs.Lists.{Bytes, part, splice}
 use Rattle.numbers.specs.Numbers.Order.{least_first, most_first}
 use Rattle.numbers.specs.Numbers.{Order, le_value, le_bytes, ordered, value_in, bytes_in}
-use Rattle.numbers.proofs.ListLaws.{length_part, part-add, bytes-part}
-use Rattle.numbers.proofs.SpliceLaws.{wrote, put_put, splice_over, set_is_splice}
+use Rattle.numbers.proofs.ListLaws.{rest_is_drop, length_part, bytes-part}
+use Rattle.numbers.proofs.SpliceLaws.{set_is_splice, splice-splice, splice-rest}
 
 -- ---- bytes in an order
 
@@ -103,20 +104,6 @@ module _ (o : Order) where
   pub value_in_bound : (bs : List ℕ) → Bytes bs → value_in o bs < 256 ^ length bs
   value_in_bound bs h = rw (length-ordered o bs) at (bound_le (ordered o bs) (bytes-ordered o bs h))
 
--- ---- a number as two, split at any width
-pub le_value-append : (xs ys : List ℕ) → le_value (xs ++ ys) ≡ le_value xs + 256 ^ length xs * le_value ys
-unfolding le_value
-le_value-append [] ys = rw (pow-zero, one-mul, zero-add)
-le_value-append (x ∷ xs) ys =
-    let ih : le_value (xs ++ ys) ≡ le_value xs + 256 ^ length xs * le_value ys = le_value-append xs ys in
-    rw (ih, pow-succ', mul_assoc) (omega arith)
-
-pub le_bytes-add : (m n v : ℕ) → le_bytes (m + n) v ≡ le_bytes m v ++ le_bytes n (v / 256 ^ m)
-unfolding le_bytes
-le_bytes-add zero n v = rw (zero-add, pow-zero, div-one)
-le_bytes-add (suc m) n v =
-    rw (suc-add, pow-succ', ← div-div-eq-div-mul) (ap (◌∷◌ (v % 256)) (le_bytes-add m n (v / 256)))
-
 -- what is above the width is left out
 pub le_bytes-mod : (w v : ℕ) → le_bytes w (v % 256 ^ w) ≡ le_bytes w v
 unfolding le_bytes
@@ -127,18 +114,6 @@ le_bytes-mod (suc w) v =
     let others : v % 256 ^ suc w / 256 ≡ v / 256 % 256 ^ w = omega arith in
     rw (first, others) (ap (◌∷◌ (v % 256)) (le_bytes-mod w (v / 256)))
 
--- ---- a number of two halves, turned round: its halves change places, and each is turned round
-pub turned_halves : (m n v : ℕ)
-    → le_value (bytes_in most_first (m + n) v)
-    ≡ le_value (bytes_in most_first n (v / 256 ^ m)) + 256 ^ n * le_value (bytes_in most_first m (v % 256 ^ m))
-turned_halves m n v =
-    let low : List ℕ = bytes_in most_first m v in
-    let high : List ℕ = bytes_in most_first n (v / 256 ^ m) in
-    ap (λ (bs : List ℕ). le_value (reverse bs)) (le_bytes-add m n v)
-    ∙ ap le_value (reverse-append (le_bytes m v) (le_bytes n (v / 256 ^ m)))
-    ∙ le_value-append high low
-    ∙ ap₂ (λ (k : ℕ) (bs : List ℕ). le_value high + 256 ^ k * le_value (reverse bs)) (length-bytes_in most_first n (v / 256 ^ m)) (sym (le_bytes-mod m v))
-
 -- ---- one byte
 pub le_value_one : (s : List ℕ) (at : ℕ) → at < length s → le_value (part s at 1) ≡ get_or s at 0
 unfolding le_value
@@ -148,28 +123,60 @@ pub set_is_le_bytes : (d : List ℕ) (at v : ℕ) → at < length d → v < 256 
 unfolding le_bytes
 set_is_le_bytes d at v h small = set_is_splice d at v h ∙ ap (λ (b : ℕ). splice d at (b ∷ [])) (sym (mod-eq_of_lt small))
 
--- ---- read and written by halves, at an offset
-pub le_value_halves : (s : List ℕ) (at m n : ℕ) → at + m ≤ length s
-    → le_value (part s at (m + n)) ≡ le_value (part s at m) + 256 ^ m * le_value (part s (at + m) n)
-le_value_halves s at m n h =
-    ap le_value (part-add s at m n)
-    ∙ le_value-append (part s at m) (part s (at + m) n)
-    ∙ ap (λ (k : ℕ). le_value (part s at m) + 256 ^ k * le_value (part s (at + m) n)) (length_part s at m h)
-
-pub splice_halves : (d : List ℕ) (at m n v : ℕ) → at ≤ length d
-    → splice (splice d at (le_bytes m (v % 256 ^ m))) (at + m) (le_bytes n (v / 256 ^ m)) ≡ splice d at (le_bytes (m + n) v)
-splice_halves d at m n v h =
-    (put_put h (wrote (length-bytes_in least_first m v) (ap (splice d at) (le_bytes-mod m v))) (wrote (length-bytes_in least_first n (v / 256 ^ m)) refl)).is
-    ∙ ap (splice d at) (sym (le_bytes-add m n v))
-
 -- a store and then the bytes above it
 pub splice_step : (d : List ℕ) (at n v : ℕ) → at < length d
-    → splice (set d at (v % 256)) (at + 1) (le_bytes n (v / 256)) ≡ splice d at (le_bytes (1 + n) v)
+    → splice (set d at (v % 256)) (at + 1) (le_bytes n (v / 256)) ≡ splice d at (le_bytes (suc n) v)
+unfolding le_bytes
 splice_step d at n v h =
-    let inside : at ≤ length d = omega arith in
-    let small : v % 256 < 256 = omega arith in
-    ap (λ (e : List ℕ). splice e (at + 1) (le_bytes n (v / 256))) (set_is_le_bytes d at (v % 256) h small)
-    ∙ splice_halves d at 1 n v inside
+    ap (λ (e : List ℕ). splice e (at + 1) (le_bytes n (v / 256))) (set_is_splice d at (v % 256) h)
+    ∙ splice-splice d at (v % 256 ∷ []) (le_bytes n (v / 256)) (omega arith)
+
+-- ---- std's numbers in bytes
+
+-- the n bytes of s from offset at + k on, as they are read
+abbrev reads : List ℕ → ℕ → ℕ → ℕ → List ℕ
+reads s at k zero = []
+reads s at k (suc n) = get_or s (at + k) 0 ∷ reads s at (suc k) n
+
+part_reads : (s : List ℕ) (at k n : ℕ) → at + k + n ≤ length s → part s (at + k) n ≡ reads s at k n
+part_reads s at k zero h = refl
+part_reads s at k (suc n) h =
+    let e : suc (at + k) ≡ at + suc k = omega arith in
+    ap (take (suc n)) (drop-cons s (at + k) 0 (omega arith))
+    ∙ ap (◌∷◌ (get_or s (at + k) 0)) (ap (λ (j : ℕ). part s j n) e ∙ part_reads s at (suc k) n (omega arith))
+
+pub part_read : (s : List ℕ) (at n : ℕ) → at + suc n ≤ length s → part s at (suc n) ≡ get_or s at 0 ∷ reads s at 1 n
+part_read s at n h =
+    let e : suc at ≡ at + 1 = omega arith in
+    ap (take (suc n)) (drop-cons s at 0 (omega arith))
+    ∙ ap (◌∷◌ (get_or s at 0)) (ap (λ (j : ℕ). part s j n) e ∙ part_reads s at 1 n (omega arith))
+
+pub all_read : (bs : List ℕ) (n : ℕ) → length bs ≡ suc n → bs ≡ get_or bs 0 0 ∷ reads bs 0 1 n
+all_read bs n h = sym (take_all (suc n) bs (omega arith)) ∙ part_read bs 0 n (omega arith)
+
+-- std's bytes of a number are ours
+bytes_from : (i w v : ℕ) → bytes_low_first i w v ≡ le_bytes w (v / 256 ^ i)
+unfolding le_bytes
+bytes_from i zero v = refl
+bytes_from i (suc w) v =
+    ap₂ ◌∷◌ (byte i) (bytes_from (suc i) w v ∙ ap (le_bytes w) further)
+  where
+    byte : (i : ℕ) → byte_at i v ≡ v / 256 ^ i % 256
+    byte zero = rw (pow-zero, div-one)
+    byte (suc i) = refl
+
+    further : v / 256 ^ suc i ≡ v / 256 ^ i / 256
+    further = rw pow-suc (sym (div-div-eq-div-mul v (256 ^ i) 256))
+
+pub bytes_are : (w v : ℕ) → bytes_low_first 0 w v ≡ le_bytes w v
+bytes_are w v = bytes_from 0 w v ∙ ap (le_bytes w) (rw (pow-zero, div-one) refl)
+
+-- a number's bytes, written over as many
+pub splice_all : (d : List ℕ) (w v : ℕ) → length d ≡ w → splice d 0 (le_bytes w v) ≡ le_bytes w v
+unfolding splice
+splice_all d w v h =
+    let end : length d ≤ w = omega arith in
+    rw (length-le w v, zero-add w, drop_of_length-le d end) (append-nil (le_bytes w v))
 
 -- ---- bytes moved as a number
 pub le_bytes-part : (s : List ℕ) (at w : ℕ) → Bytes s → at + w ≤ length s → le_bytes w (le_value (part s at w)) ≡ part s at w
@@ -182,38 +189,14 @@ pub turned-part : (s : List ℕ) (at w : ℕ) → Bytes s → at + w ≤ length 
     → le_value (bytes_in most_first w (le_value (part s at w))) ≡ value_in most_first (part s at w)
 turned-part s at w h inside = ap (λ (bs : List ℕ). le_value (reverse bs)) (le_bytes-part s at w h inside)
 
--- bytes of s written from offset j on, where its first k are there already and k is at least j
-pub splice-moved : (d : List ℕ) (at : ℕ) (s : List ℕ) (k j w : ℕ) → Bytes s → j ≤ k → k ≤ j + w → j + w ≤ length s → at ≤ length d
-    → splice (splice d at (take k s)) (at + j) (le_bytes w (le_value (part s j w))) ≡ splice d at (take (j + w) s)
-splice-moved d at s k j w h low high inside room =
-    let size : length (take k s) ≡ k = length-take-le k s (omega arith) in
-    let size-part : length (part s j w) ≡ w = length_part s j w inside in
-    rw (le_bytes-part s j w h inside)
-    (splice_over d at (take k s) j (part s j w) (omega arith) (omega arith) room
-    ∙ ap (λ (r : List ℕ). splice d at (r ++ part s j w)) (take-take j k s low)
-    ∙ ap (splice d at) (sym (take-add j w s)))
-
--- and if they are the last w
-splice_last : (d : List ℕ) (at : ℕ) (s : List ℕ) (k w : ℕ) → Bytes s → length s ≤ k + w → k ≤ length s → w ≤ length s → at ≤ length d
-    → splice (splice d at (take k s)) (at + (length s - w)) (le_bytes w (le_value (part s (length s - w) w))) ≡ splice d at s
-splice_last d at s k w h reach inside low room =
-    let all : length s - w + w ≡ length s = omega arith in
-    splice-moved d at s k (length s - w) w h (omega arith) (omega arith) (omega arith) room
-    ∙ ap (λ (n : ℕ). splice d at (take n s)) all
-    ∙ ap (splice d at) (take-length s)
-
 -- the first w bytes of s and its last w, moved as numbers, are all of s if it has at most 2 w bytes
 pub splice-ends : (d : List ℕ) (at : ℕ) (s : List ℕ) (w : ℕ) → Bytes s → w ≤ length s → length s ≤ w + w → at + length s ≤ length d
     → splice (splice d at (le_bytes w (le_value (part s 0 w)))) (at + (length s - w)) (le_bytes w (le_value (part s (length s - w) w)))
     ≡ splice d at s
 splice-ends d at s w h low high inside =
-    rw (le_bytes-part s 0 w h (omega arith)) (splice_last d at s w w h high low low (omega arith))
-
--- its first byte, its middle one and its last are all of s if it has at most three
-pub splice_few : (d : List ℕ) (at : ℕ) (s : List ℕ) → Bytes s → 1 ≤ length s → length s ≤ 3 → at + length s ≤ length d
-    → splice (splice (splice d at (le_bytes 1 (le_value (part s 0 1)))) (at + length s / 2) (le_bytes 1 (le_value (part s (length s / 2) 1)))) (at + (length s - 1)) (le_bytes 1 (le_value (part s (length s - 1) 1)))
-    ≡ splice d at s
-splice_few d at s h low high inside =
-    let m : ℕ = length s / 2 in
-    rw (le_bytes-part s 0 1 h low, splice-moved d at s 1 m 1 h (omega arith) (omega arith) (omega arith) (omega arith))
-    (splice_last d at s (m + 1) 1 h (omega arith) (omega arith) low (omega arith))
+    let k : ℕ = length s - w in
+    let all : w ≡ length s - k = omega arith in
+    rw (le_bytes-part s 0 w h (omega arith), le_bytes-part s k w h (omega arith))
+    (ap (λ (n : ℕ). splice (splice d at (take w s)) (at + k) (part s k n)) all
+    ∙ ap (splice (splice d at (take w s)) (at + k)) (rest_is_drop s k)
+    ∙ splice-rest d at s w low k (omega arith) (omega arith))

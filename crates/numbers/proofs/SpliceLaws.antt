@@ -1,14 +1,15 @@
 -- Laws of `splice`: what it keeps, what is at the offset, and how adjacent writes compose. Assumes nothing.
 use mathlib.Core.Path.{◌≡◌, refl, sym, ap, ap₂, ◌∙◌}
-use mathlib.Core.List.{List, [], ◌∷◌, ◌++◌, append_assoc, append-nil}
-use Prim.Native.Nat.{ℕ, ◌+◌, ◌-◌, ◌≤◌, ◌<◌}
+use mathlib.Core.List.{List, [], ◌∷◌, ◌++◌, append_assoc}
+use Prim.Native.Nat.{ℕ, suc, ◌+◌, ◌-◌, ◌/◌, ◌≤◌, ◌<◌}
 use native.Mathlib.Nat.{le_refl, add-zero, add_assoc}
 use native.Mathlib.Numerals.{add-one}
 use native.Mathlib.Omega.{arith}
-use lib.ListN.{length, take, drop, set, length-append, length-drop, take-append-drop, drop_of_length-le}
-use lib.Seq.{length-take-le, take-length, take-append-le, take-append-add, drop_at, drop-drop, set_split}
+use lib.ListN.{length, take, drop, get_or, set, length-append, length-drop, take-append-drop}
+use borrow.Rule.Slice.PartMut.{put_mid}
+use lib.Seq.{length-take-le, take-length, take-take, take-suc, take-append-le, take-append-add, drop_at, drop-drop, set_split}
 use Rattle.numbers.specs.Lists.{splice}
-use Rattle.numbers.proofs.ListLaws.{rest_is_drop, drop_past}
+use Rattle.numbers.proofs.ListLaws.{drop_past}
 
 module _ (d : List ℕ) (at : ℕ) (ys : List ℕ) where
   pub length-splice : at + length ys ≤ length d → length (splice d at ys) ≡ length d
@@ -62,18 +63,56 @@ pub splice-nil : (d : List ℕ) (at : ℕ) → splice d at [] ≡ d
 unfolding splice
 splice-nil d at = rw add-zero (take-append-drop at d)
 
--- ys written at the start of the rest of a buffer, which was lent as `&mut d[at..]` and has come back
-pub rest_is_splice : (d : List ℕ) (at : ℕ) (ys : List ℕ)
-    → take at d ++ (ys ++ drop (length ys) (take (length d - at) (drop at d)) ++ drop (length d - at) (drop at d)) ≡ splice d at ys
-unfolding splice
-rest_is_splice d at ys =
-    let past : drop (length d - at) (drop at d) ≡ [] = drop_of_length-le (drop at d) {i = length d - at} (simp length-drop (omega arith)) in
-    rw (past, append-nil, rest_is_drop, drop-drop)
-
 -- one element stored
 pub set_is_splice : (d : List ℕ) (at v : ℕ) → at < length d → set d at v ≡ splice d at (v ∷ [])
 unfolding splice
 set_is_splice d at v h = set_split d at v h ∙ rw add-one refl
+
+-- ys written over the part of a buffer that was lent as `&mut d[at..at + n]`
+pub mid_is_splice : (d : List ℕ) (at n : ℕ) (ys : List ℕ) → length ys ≡ n → put_mid at n d ys ≡ splice d at ys
+unfolding splice
+mid_is_splice d at n ys e = rw (e, drop-drop)
+
+-- ---- s written in pieces, of which the first k elements are there already
+
+module _ (d : List ℕ) (at : ℕ) (s : List ℕ) (k : ℕ) (low : k ≤ length s) where
+  -- a piece from offset j on
+  splice-piece : (j : ℕ) (zs : List ℕ) → j ≤ k → k ≤ j + length zs → at ≤ length d
+      → splice (splice d at (take k s)) (at + j) zs ≡ splice d at (take j s ++ zs)
+  splice-piece j zs h reach inside =
+      let e : length (take k s) ≡ k = length-take-le k s low in
+      splice_over d at (take k s) j zs (omega arith) (omega arith) inside
+      ∙ ap (λ (r : List ℕ). splice d at (r ++ zs)) (take-take j k s h)
+
+  -- all that is left
+  pub splice-rest : (j : ℕ) → j ≤ k → at ≤ length d → splice (splice d at (take k s)) (at + j) (drop j s) ≡ splice d at s
+  splice-rest j h inside =
+      splice-piece j (drop j s) h (simp length-drop (omega arith)) inside
+      ∙ ap (splice d at) (take-append-drop j s)
+
+  -- one element
+  pub set-piece : (j : ℕ) → j ≤ k → k ≤ suc j → j < length s → at + length s ≤ length d
+      → set (splice d at (take k s)) (at + j) (get_or s j 0) ≡ splice d at (take (suc j) s)
+  set-piece j h reach inside room =
+      let size : length (splice d at (take k s)) ≡ length d = length-splice d at (take k s) (omega (arith, length-take-le k s low)) in
+      let x : ℕ = get_or s j 0 in
+      set_is_splice (splice d at (take k s)) (at + j) x (omega arith)
+      ∙ splice-piece j (x ∷ []) h (omega arith) (omega arith)
+      ∙ ap (splice d at) (sym (take-suc s j 0 inside))
+
+-- at most three elements: the first, the middle one and the last
+pub set-few : (d : List ℕ) (at : ℕ) (s : List ℕ) → 1 ≤ length s → length s ≤ 3 → at + length s ≤ length d
+    → set (set (set d at (get_or s 0 0)) (at + length s / 2) (get_or s (length s / 2) 0)) (at + (length s - 1)) (get_or s (length s - 1) 0)
+    ≡ splice d at s
+set-few d at s low high room =
+    let m : ℕ = length s / 2 in
+    let l : ℕ = length s - 1 in
+    let whole : suc l ≡ length s = omega arith in
+    ap (λ (e : List ℕ). set (set e (at + m) (get_or s m 0)) (at + l) (get_or s l 0)) (set_is_splice d at (get_or s 0 0) (omega arith) ∙ ap (splice d at) (sym (take-suc s 0 0 low)))
+    ∙ ap (λ (e : List ℕ). set e (at + l) (get_or s l 0)) (set-piece d at s 1 low m (omega arith) (omega arith) (omega arith) room)
+    ∙ set-piece d at s (suc m) (omega arith) l (omega arith) (omega arith) (omega arith) room
+    ∙ ap (λ (n : ℕ). splice d at (take n s)) whole
+    ∙ ap (splice d at) (take-length s)
 
 -- ---- adjacent writes, one after the other: the bytes ys were written into d at offset at, which left d' and the next offset
 pub record Put (d : List ℕ) (at : ℕ) (ys : List ℕ) (d' : List ℕ) (next : ℕ) : Type 0 where

@@ -1,16 +1,22 @@
 -- What the contracts of inner functions cite: nothing that a reader of the public ones must believe. Assumes nothing.
-use Rattle.std.specs.Prelude.{Bool, true, cond, ◌&&◌, ◌||◌, List, [], ◌∷◌, ℕ, zero, suc, ◌+◌, leb, ltb, get_or, replicate}
-use Rattle.numbers.specs.Text.{Range, ◌to◌, tail, within, class_of, asks}
-
--- the ranges of `left` more bytes: the next from low to high, the others tails
-unfoldable pub awaited : ℕ → ℕ → ℕ → List Range
-awaited zero low high = []
-awaited (suc n) low high = (low to high) ∷ replicate n tail
+use Rattle.std.specs.Prelude.{Option, Some, None, Bool, true, cond, ◌&&◌, ◌||◌, List, [], ◌∷◌, ℕ, zero, suc, ◌+◌, leb, ltb, get_or}
+use Rattle.numbers.specs.declared.lead.Lead.{Lead}
+use Rattle.numbers.specs.declared.lead.Lead.TheVariants.{Alone, Second}
+use Rattle.numbers.specs.Text.{Range, tail, within, class_of, asks}
 
 -- the ranges after a lead byte of a class; none where no line has it
 unfoldable pub after : ℕ → List Range
 unfolding asks
 after k = cond (ltb k 9) (asks k) []
+
+-- what the code hands back of a class: the first of its ranges, where it has any
+abbrev pub lead_in : List Range → Lead
+lead_in [] = Alone
+lead_in (r ∷ rs) = Second r.low r.high
+
+unfoldable pub lead : ℕ → Option Lead
+unfolding asks
+lead k = cond (ltb k 9) (Some (lead_in (asks k))) None
 
 -- ---- a byte and the three before it
 
@@ -38,8 +44,3 @@ unfoldable pub all_fit : List ℕ → ℕ → ℕ → Bool
 unfolding fits_at
 all_fit s i zero = true
 all_fit s i (suc n) = all_fit s i n && fits_at s (i + n)
-
--- the highest of the bytes and of top
-unfoldable pub highest_from : ℕ → List ℕ → ℕ
-highest_from top [] = top
-highest_from top (b ∷ s) = highest_from (cond (ltb top b) b top) s

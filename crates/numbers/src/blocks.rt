@@ -1,25 +1,39 @@
 // Which bytes are text, in blocks of sixteen: each byte is held against the three before it, which say whether it leads
 // a character or goes on with one. No jump of a block depends on its bytes, so that the compiler makes vectors of it.
-ghost use Rattle.std.specs.Prelude.{◌≡◌, ◌&&◌, ◌+◌, ◌≤◌, length};
-ghost use Rattle.numbers.specs.Text.{utf8};
-ghost use Rattle.numbers.specs.Inner.{fits_after, fits_at, all_fit};
+ghost use Rattle.std.specs.Prelude.{◌≡◌, ◌&&◌, ◌||◌, ◌+◌, ◌≤◌, [], length, leb};
+ghost use Rattle.numbers.specs.Text.{◌to◌, within, utf8};
+ghost use Rattle.numbers.specs.Inner.{fits_in, fits_after, fits_at, all_fit};
 
 use crate::copy::copy;
-use crate::lead::{after_lead, class_of};
+use crate::lead::{Lead, lead_of};
 
-// Whether x may come after the bytes c, b and a, in this order.
+// Whether x lies in a range, whose ends are in it. Written out: `contains` would first have to make a range of the two.
+fn within(low: u8, high: u8, x: u8) -> bool
+    ensures { result ≡ within (low to high) x }
+{
+    low <= x && x <= high
+}
+
+// Whether x may come where the byte before it asks for nothing, and those before that are b and c.
+fn fits_further(c: u8, b: u8, x: u8) -> bool
+    ensures { result ≡ fits_in [] (leb 0xe0 b || leb 0xf0 c) x }
+{
+    // The third byte of a character, or the fourth, is a tail.
+    if 0xe0 <= b || 0xf0 <= c {
+        return within(0x80, 0xbf, x);
+    }
+    lead_of(x).is_some()
+}
+
+// Whether x may come after the bytes c, b and a, in this order. They are four and no array: at the ends of a text some
+// are bytes of it and some are zeros.
 fn fits(c: u8, b: u8, a: u8, x: u8) -> bool
     ensures { result ≡ fits_after c b a x }
 {
-    let next = after_lead(class_of(a));
-    if 1 <= next.0 {
-        return next.1 <= x && x <= next.2;
+    match lead_of(a) {
+        Some(Lead::Second { low, high }) => within(low, high, x),
+        Some(Lead::Alone) | None => fits_further(c, b, x),
     }
-    // The third byte of a character, or the fourth, is a tail.
-    if 0xe0 <= b || 0xf0 <= c {
-        return 0x80 <= x && x <= 0xbf;
-    }
-    class_of(x) < 9
 }
 
 // The first three bytes, with zero bytes before them, and the end: a zero byte fits there where no more are awaited.
@@ -34,17 +48,14 @@ fn ends(s: &[u8]) -> bool
         & fits(s[n - 3], s[n - 2], s[n - 1], 0)
 }
 
-// The sixteen bytes from offset at on.
+// The sixteen bytes from offset at on. By offset, as `all_fit` counts: `windows(4)` would begin three bytes before at.
 fn block(s: &[u8], at: usize) -> bool
     requires { (3 ≤ at) × (at + 16 ≤ length s.now) }
     ensures { result ≡ all_fit s.now at 16 }
 {
     let mut all = true;
-    let mut k = 0;
-    while k < 16 {
-        let i = at + k;
-        all = all & fits(s[i - 3], s[i - 2], s[i - 1], s[i]);
-        k = k + 1;
+    for i in at..at + 16 {
+        all &= fits(s[i - 3], s[i - 2], s[i - 1], s[i]);
     }
     all
 }
@@ -58,25 +69,23 @@ fn long(s: &[u8]) -> bool
         return false;
     }
     let last = s.len() - 16;
-    let mut at = 3;
-    while at < last {
+    // A loop: a closure for `all` would need a clause of its own, that each block lies in s.
+    for at in (3..last).step_by(16) {
         if !block(s, at) {
             return false;
         }
-        at = at + 16;
     }
     block(s, last)
 }
 
-// Whether all of s is text. Fewer bytes are filled up with zero bytes, which are characters of their own; then it calls
-// itself.
+// Whether all of s is text. Fewer bytes than 19 are filled up with zero bytes, which are characters of their own.
 pub(crate) fn by_blocks(s: &[u8]) -> bool
     ensures { result ≡ utf8 s.now }
 {
     if s.len() < 19 {
-        let mut filled: [u8; 19] = [0; 19];
+        let mut filled = [0; 19];
         copy(&mut filled, 0, s);
-        return by_blocks(&filled);
+        return long(&filled);
     }
     long(s)
 }

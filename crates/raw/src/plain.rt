@@ -1,23 +1,25 @@
 // What `RawRecord` tells of a record's bytes, for callers that have them as a plain slice: each function makes the
-// struct and calls the method of its name.
+// struct and calls the method of its name. They are public functions whose promises the table of docs/PROOF.md lists,
+// and five edits of must-fail.more hold them; so they stay.
 ghost use Rattle.std.specs.Prelude.{◌≡◌, length};
 ghost use Rattle.frames.specs.Frames.{value_of};
 ghost use Rattle.records.specs.Reading.{parse};
 ghost use Rattle.records.specs.Kinds.{kind_in};
 
 use crate::raw_record::RawRecord;
-use frames::read::Content;
+use frames::read::Part;
+use frames::refusal::Refusal;
 use records::address::AddressForm;
 use records::kind::Kind;
-use records::parse::Parsed;
+use records::record::Record;
 
-pub fn kind(s: &[u8]) -> Kind
+pub fn kind(s: &[u8]) -> Result<Kind, Refusal>
     ensures { result ≡ kind_in s.now }
 {
     RawRecord::new(s).kind()
 }
 
-pub fn value(s: &[u8]) -> Content
+pub fn value(s: &[u8]) -> Result<Part, Refusal>
     ensures { result ≡ value_of s.now }
 {
     RawRecord::new(s).value()
@@ -29,7 +31,7 @@ pub fn len(s: &[u8]) -> usize
     RawRecord::new(s).len()
 }
 
-pub fn parse(s: &[u8], form: AddressForm) -> Parsed
+pub fn parse(s: &[u8], form: AddressForm) -> Result<Record, Refusal>
     ensures { result ≡ parse form 0 s.now }
 {
     RawRecord::new(s).parse(form)

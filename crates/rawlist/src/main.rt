@@ -8,6 +8,7 @@ mod record;
 use console::input::{is_all, read_full};
 use listing::list;
 
+// No function allocates, so the space has the largest size, and n tells how much of it is the trace.
 fn main(rt: HostRuntime) {
     let mut space = [0u8; 65536];
     let n = read_full(rt.stdin(), &mut space);

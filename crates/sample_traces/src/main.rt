@@ -8,47 +8,34 @@ mod boot;
 mod curve;
 mod damaged;
 mod foreign;
-mod put;
 mod ride;
 mod scratched;
+mod trace;
 
 use console::input::read_full;
 use console::print;
-use records::judge::Verdict;
-use records::position::Written;
-use std::io::Stdout;
+use trace::{Put, Trace};
 
 // Makes the trace that a digit names.
-fn made(out: &mut [u8], digit: u8) -> Written {
+fn make(trace: &mut Trace, digit: u8) -> Put {
     match digit {
-        b'1' => boot::boot(out),
-        b'2' => ride::ride(out),
-        b'3' => foreign::foreign(out),
-        b'4' => damaged::damaged(out),
-        b'5' => scratched::scratched(out),
-        _ => put::empty(),
-    }
-}
-
-// The bytes of a trace, where all its records were written.
-fn show(stdout: Stdout, out: &[u8], w: Written) {
-    let position = w.position;
-    let verdict = w.verdict;
-    let end = position.at;
-    let Verdict::Accepted = verdict else {
-        return;
-    };
-    if end <= out.len() {
-        print::text(stdout, &out[..end]);
+        b'1' => boot::boot(trace),
+        b'2' => ride::ride(trace),
+        b'3' => foreign::foreign(trace),
+        b'4' => damaged::damaged(trace),
+        b'5' => scratched::scratched(trace),
+        _ => Ok(()),
     }
 }
 
 fn main(rt: HostRuntime) {
+    // A second byte tells whether there is more than a digit.
     let mut input = [0u8; 2];
     if read_full(rt.stdin(), &mut input) != 1 {
         return;
     }
-    let mut out = [0u8; 2048];
-    let w = made(&mut out, input[0]);
-    show(rt.stdout(), &out, w);
+    let mut trace = Trace::new();
+    if make(&mut trace, input[0]).is_ok() {
+        print::text(rt.stdout(), trace.bytes());
+    }
 }

@@ -2,9 +2,8 @@
 // the display is drawn anew. Then there is what the gauges show on the way.
 use crate::begin::begin;
 use crate::curve::curve;
-use crate::put::{put, put_meta};
+use crate::trace::{Put, Trace};
 use records::new_record::{NewFileMeta, NewMeta, NewRecord};
-use records::position::Written;
 use records::record::Register;
 
 // The registers of the fuel sensor and of the bus.
@@ -29,150 +28,109 @@ const R3: Register = Register(3);
 
 // A FileMeta of tag 7, which this format does not have, names the release; then the process and its display
 // thread.
-fn first(out: &mut [u8], w: Written) -> Written {
+fn first(trace: &mut Trace) -> Put {
     let release = NewFileMeta::Unknown { tag: 7 };
-    let w = put(out, w, NewRecord::FileMeta(release), b"cluster 2.4");
-    let w = put_meta(out, w, NewMeta::ProcessId { processid: 1 }, b"");
-    put_meta(out, w, NewMeta::ThreadId { threadid: 2 }, b"")
+    trace.put(NewRecord::FileMeta(release), b"cluster 2.4")?;
+    trace.put_meta(NewMeta::ProcessId { processid: 1 }, b"")?;
+    trace.put_meta(NewMeta::ThreadId { threadid: 2 }, b"")
 }
 
 // An empty display buffer, and room for a message.
-fn memory(out: &mut [u8], w: Written) -> Written {
-    let w = put(out, w, NewRecord::Map { base: DISPLAY }, &[0; 256]);
-    let w = put_meta(out, w, NewMeta::InstructionCount { tick: 1000000 }, b"");
+fn memory(trace: &mut Trace) -> Put {
+    trace.put(NewRecord::Map { base: DISPLAY }, &[0; 256])?;
+    trace.count(1000000)?;
     let room = NewMeta::MemoryAllocated {
         address: ROOM,
         size: 16,
     };
-    put_meta(out, w, room, b"")
+    trace.put_meta(room, b"")
 }
 
-// The tick timer's interrupt, and the value of the sensor, 722.
-fn sensor(out: &mut [u8], w: Written) -> Written {
+// The tick timer's interrupt, and the value of the sensor, 722. That is 70 percent, which is written to the display.
+fn tick(trace: &mut Trace) -> Put {
     let timer = NewRecord::Interrupt {
         num: 15,
         tick: 1000040,
     };
-    let w = put(out, w, timer, b"");
-    let read = NewRecord::MemRead { address: SENSOR };
-    put(out, w, read, b"\xd2\x02\x00\x00")
-}
-
-// The value is 70 percent, and that is written to the display.
-fn tick(out: &mut [u8], w: Written) -> Written {
-    let w = sensor(out, w);
-    let address = NewRecord::RegRead { regnum: R2 };
-    let w = put(out, w, address, b"\x00\x10\x00\x20");
-    let percent = NewRecord::RegWrite { regnum: R3 };
-    let w = put(out, w, percent, b"\x46\x00\x00\x00");
-    let shown = NewRecord::MemWrite { address: DISPLAY };
-    put(out, w, shown, b"FUEL 70%")
+    trace.put(timer, b"")?;
+    trace.put(NewRecord::MemRead { address: SENSOR }, b"\xd2\x02\x00\x00")?;
+    trace.put(NewRecord::RegRead { regnum: R2 }, b"\x00\x10\x00\x20")?;
+    trace.put(NewRecord::RegWrite { regnum: R3 }, b"\x46\x00\x00\x00")?;
+    trace.put(NewRecord::MemWrite { address: DISPLAY }, b"FUEL 70%")
 }
 
 // The bus has received a message, and its eight bytes are kept. Then the room for messages is made larger,
 // at another place.
-fn message(out: &mut [u8], w: Written) -> Written {
+fn message(trace: &mut Trace) -> Put {
     let message = b"\x10\x27\x58\x00\x00\x00\x00\x01";
     let received = NewRecord::Interrupt {
         num: 36,
         tick: 1000258,
     };
-    let w = put(out, w, received, b"");
-    let w = put(out, w, NewRecord::MemRead { address: BUS }, message);
-    let w = put(out, w, NewRecord::MemWrite { address: ROOM }, message);
+    trace.put(received, b"")?;
+    trace.put(NewRecord::MemRead { address: BUS }, message)?;
+    trace.put(NewRecord::MemWrite { address: ROOM }, message)?;
     let moved = NewMeta::MemoryReallocated {
         new_address: LARGER,
         old_address: ROOM,
         size: 64,
     };
-    put_meta(out, w, moved, b"")
+    trace.put_meta(moved, b"")
 }
 
 // What the bytes that are written next depend on, a place in memory and a register; that they are not known
 // for certain; and the bytes.
-fn copy(out: &mut [u8], w: Written) -> Written {
-    let place = NewMeta::AddressDependencyEdge { address: ROOM };
-    let w = put_meta(out, w, place, b"");
-    let register = NewMeta::RegisterDependencyEdge { register: R3 };
-    let w = put_meta(out, w, register, b"");
-    let w = put_meta(out, w, NewMeta::OperandUncertain, b"");
+fn copy(trace: &mut Trace) -> Put {
+    trace.put_meta(NewMeta::AddressDependencyEdge { address: ROOM }, b"")?;
+    trace.put_meta(NewMeta::RegisterDependencyEdge { register: R3 }, b"")?;
+    trace.put_meta(NewMeta::OperandUncertain, b"")?;
     let written = NewRecord::MemWrite { address: LARGER };
-    put(out, w, written, b"\x10\x27\x58\x00\x00\x00\x00\x01")
+    trace.put(written, b"\x10\x27\x58\x00\x00\x00\x00\x01")
 }
 
 // The message is copied by a function of which the effects are recorded and not the instructions.
-fn copied(out: &mut [u8], w: Written) -> Written {
-    let w = put_meta(out, w, NewMeta::CallBegin { address: 0x400 }, b"memcpy");
-    let w = copy(out, w);
-    let w = put_meta(out, w, NewMeta::CallModeledOpsEnd, b"");
-    let end = NewMeta::CallEnd {
-        call_instruction_addr: 0x31c,
-    };
-    put_meta(out, w, end, b"")
+fn copied(trace: &mut Trace) -> Put {
+    trace.begin_call(0x400, b"memcpy")?;
+    copy(trace)?;
+    trace.put_meta(NewMeta::CallModeledOpsEnd, b"")?;
+    trace.end_call(0x31c)
 }
 
-// Another thread draws, in a function whose name has 32 bytes, as many as there is room for.
-fn drawing(out: &mut [u8], w: Written) -> Written {
-    let w = put_meta(out, w, NewMeta::ThreadId { threadid: 3 }, b"");
-    let begin = NewMeta::CallBegin { address: 0x480 };
-    put_meta(out, w, begin, b"Geschwindigkeitsanzeige_zeichnen")
-}
-
-// The whole display: 256 bytes at once, so that the record is of the longer form. Then the speed.
-fn drawn(out: &mut [u8], w: Written) -> Written {
-    let all = NewRecord::MemWrite { address: DISPLAY };
-    let w = put(out, w, all, &[b' '; 256]);
-    let w = put(out, w, NewRecord::MemWrite { address: SPEED }, b"88 km/h");
-    let end = NewMeta::CallEnd {
-        call_instruction_addr: 0x322,
-    };
-    put_meta(out, w, end, b"")
+// Another thread draws the whole display, 256 bytes at once, so that the record is of the longer form. Then the speed.
+// The function's name has 32 bytes, as many as there is room for.
+fn draw(trace: &mut Trace) -> Put {
+    trace.put_meta(NewMeta::ThreadId { threadid: 3 }, b"")?;
+    trace.begin_call(0x480, b"Geschwindigkeitsanzeige_zeichnen")?;
+    trace.put(NewRecord::MemWrite { address: DISPLAY }, &[b' '; 256])?;
+    trace.put(NewRecord::MemWrite { address: SPEED }, b"88 km/h")?;
+    trace.end_call(0x322)
 }
 
 // What a later recorder may write: a Meta of tag 201, which this format does not have. Then the room for
 // messages and the display buffer are given back.
-fn last(out: &mut [u8], w: Written) -> Written {
-    let w = put_meta(out, w, NewMeta::Unknown { tag: 201 }, b"\x01\x02\x03");
+fn last(trace: &mut Trace) -> Put {
+    trace.put_meta(NewMeta::Unknown { tag: 201 }, b"\x01\x02\x03")?;
     let freed = NewMeta::MemoryFreed {
         address: LARGER,
         size: 64,
     };
-    let w = put_meta(out, w, freed, b"");
-    let w = put_meta(out, w, NewMeta::InstructionCount { tick: 9018000 }, b"");
+    trace.put_meta(freed, b"")?;
+    trace.count(9018000)?;
     let display = NewRecord::Unmap {
         base: DISPLAY,
         length: 256,
     };
-    put(out, w, display, b"")
+    trace.put(display, b"")
 }
 
-fn start(out: &mut [u8]) -> Written {
-    let w = begin(out);
-    let w = first(out, w);
-    memory(out, w)
-}
-
-fn interrupts(out: &mut [u8], w: Written) -> Written {
-    let w = tick(out, w);
-    let w = message(out, w);
-    copied(out, w)
-}
-
-// The drawing, from its call to its return.
-fn draw(out: &mut [u8], w: Written) -> Written {
-    let w = drawing(out, w);
-    drawn(out, w)
-}
-
-// The ride's first moment, up to the end of the drawing.
-fn moment(out: &mut [u8]) -> Written {
-    let w = start(out);
-    let w = interrupts(out, w);
-    draw(out, w)
-}
-
-pub(crate) fn ride(out: &mut [u8]) -> Written {
-    let w = moment(out);
-    let w = curve(out, w);
-    last(out, w)
+pub(crate) fn ride(trace: &mut Trace) -> Put {
+    begin(trace)?;
+    first(trace)?;
+    memory(trace)?;
+    tick(trace)?;
+    message(trace)?;
+    copied(trace)?;
+    draw(trace)?;
+    curve(trace)?;
+    last(trace)
 }

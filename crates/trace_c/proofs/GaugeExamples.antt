@@ -1,5 +1,7 @@
 -- What the house functions take and hand back, in small cases, as tables that are proved by computing them. What is due comes from
 -- include/trace.h and from document 02's words of M-103. Assumes nothing.
+use Rattle.std.specs.Prelude.{Option, Some, None}
+use Rattle.frames.specs.declared.refusal.Refusal.{Refusal}
 use mathlib.Core.Path.{◌≡◌, refl}
 use mathlib.Core.List.{List, [], ◌∷◌, ◌++◌}
 use Prim.Native.Nat.{ℕ, suc}
@@ -12,7 +14,6 @@ use Rattle.house.specs.declared.gauge.Gauge.{Gauge}
 use Rattle.house.specs.declared.read.HouseAnswer.{HouseAnswer}
 use Rattle.house.specs.Gauges.{gauge_bytes, gauge_as, gauge_in, gauge_of}
 use Rattle.house.specs.House.{is_house, gauge_at, house_answer, house_reading, house_next, house_previous, ruled_by, judge_house, judge_house_write, house_written, house_bytes}
-use Rattle.trace_c.specs.declared.gauge.GivenGauge.{GivenGauge}
 use Rattle.trace_c.specs.Types.{fuel, distance_left, reserve_lamp}
 use Rattle.trace_c.specs.Fields.{file_meta_fields, meta_fields, fields_of, numbers_of, flat_answer}
 use Rattle.trace_c.specs.Forms.{form_number, form_of, form_in, placed}
@@ -36,8 +37,8 @@ told =
     ∷ row (flat_house (HouseAnswer.Fields (Gauge.DistanceLeft 5 6) (at 2 3))) (0 ∷ 0 ∷ 2 ∷ 3 ∷ 29 ∷ 5 ∷ 6 ∷ 0 ∷ 0 ∷ 0 ∷ [])
     ∷ row (flat_house (HouseAnswer.Fields (Gauge.ReserveLamp 1 6) (at 2 3))) (0 ∷ 0 ∷ 2 ∷ 3 ∷ 30 ∷ 1 ∷ 6 ∷ 0 ∷ 0 ∷ 0 ∷ [])
     ∷ row (flat_house (HouseAnswer.Other (Answer.Shown (Record.Meta (Meta.Unknown 5 (at 8 9))) (at 2 3)))) (0 ∷ 0 ∷ 2 ∷ 3 ∷ 21 ∷ 5 ∷ 0 ∷ 0 ∷ 8 ∷ 9 ∷ [])
-    ∷ row (flat_house (HouseAnswer.Other (Answer.RefusedAt 15 (at 2 3)))) (1 ∷ 15 ∷ 2 ∷ 3 ∷ 0 ∷ 0 ∷ 0 ∷ 0 ∷ 0 ∷ 0 ∷ [])  -- NOT_A_GAUGE
-    ∷ row (flat_house (HouseAnswer.Other (Answer.Refused 8))) (2 ∷ 8 ∷ 0 ∷ 0 ∷ 0 ∷ 0 ∷ 0 ∷ 0 ∷ 0 ∷ 0 ∷ [])
+    ∷ row (flat_house (HouseAnswer.Other (Answer.RefusedAt Refusal.NotAGauge (at 2 3)))) (1 ∷ 15 ∷ 2 ∷ 3 ∷ 0 ∷ 0 ∷ 0 ∷ 0 ∷ 0 ∷ 0 ∷ [])  -- NOT_A_GAUGE
+    ∷ row (flat_house (HouseAnswer.Other (Answer.Refused Refusal.BeyondEnd))) (2 ∷ 8 ∷ 0 ∷ 0 ∷ 0 ∷ 0 ∷ 0 ∷ 0 ∷ 0 ∷ 0 ∷ [])
     ∷ row (flat_house (HouseAnswer.Other Answer.Finished)) (3 ∷ 0 ∷ 0 ∷ 0 ∷ 0 ∷ 0 ∷ 0 ∷ 0 ∷ 0 ∷ 0 ∷ [])
     ∷ row (flat_house (HouseAnswer.Other (Answer.Unfinished 11))) (4 ∷ 11 ∷ 0 ∷ 0 ∷ 0 ∷ 0 ∷ 0 ∷ 0 ∷ 0 ∷ 0 ∷ [])
     ∷ []
@@ -103,27 +104,27 @@ read_hold = refl
 
 -- ---- a house reading to be written, from its numbers
 
-abbrev given : Gauge → GivenGauge
-given g = GivenGauge.Gauge g
+abbrev given : Gauge → Option Gauge
+given g = Some g
 
 -- "where the type is none of the three or the value has more bits than its field"
-abbrev pub gauges : List (Row GivenGauge)
+abbrev pub gauges : List (Row (Option Gauge))
 gauges =
-    row (gauge_given 27 0 0) GivenGauge.Nothing  -- MEM_WRITE
+    row (gauge_given 27 0 0) None  -- MEM_WRITE
     ∷ row (gauge_given 28 0xffff x) (given (Gauge.Fuel 0xffff x))
-    ∷ row (gauge_given 28 0x10000 x) GivenGauge.Nothing
+    ∷ row (gauge_given 28 0x10000 x) None
     ∷ row (gauge_given 29 0xffff x) (given (Gauge.DistanceLeft 0xffff x))
-    ∷ row (gauge_given 29 0x10000 x) GivenGauge.Nothing
+    ∷ row (gauge_given 29 0x10000 x) None
     ∷ row (gauge_given 30 0xff x) (given (Gauge.ReserveLamp 0xff x))
-    ∷ row (gauge_given 30 0x100 x) GivenGauge.Nothing
-    ∷ row (gauge_given 31 0 0) GivenGauge.Nothing  -- there is no such type
-    ∷ row (gauge_given 0 0 0) GivenGauge.Nothing
+    ∷ row (gauge_given 30 0x100 x) None
+    ∷ row (gauge_given 31 0 0) None  -- there is no such type
+    ∷ row (gauge_given 0 0 0) None
     ∷ row (gauge_built 28 0x10007 5) (given (Gauge.Fuel 7 5))  -- the bits that its field has, and no others
     ∷ row (gauge_built 29 0x10007 5) (given (Gauge.DistanceLeft 7 5))
     ∷ row (gauge_built 30 0x107 5) (given (Gauge.ReserveLamp 7 5))
     ∷ row (gauge_from (28 ∷ 7 ∷ 8 ∷ 9 ∷ [])) (given (Gauge.Fuel 7 8))  -- type, value and tick; the last number does not count
     ∷ row (gauge_from (30 ∷ [])) (given (Gauge.ReserveLamp 0 0))  -- a number that is not there is 0; C's arrays have them all
-    ∷ row (gauge_from []) GivenGauge.Nothing
+    ∷ row (gauge_from []) None
     ∷ []
 
 pub gauges_hold : Hold gauges

@@ -1,15 +1,15 @@
 -- What was read, as the numbers of include/trace.h: a record's fields, and struct aglimtaq_reading as the list of its numbers, in order.
 -- A field that an answer does not use is 0. Assumes nothing.
-use Rattle.std.specs.Prelude.{List, [], ◌∷◌, ℕ}
+use Rattle.frames.specs.declared.refusal.Refusal.{Refusal}
+use Rattle.records.specs.declared.record.Record.{Record}
+use Rattle.std.specs.Prelude.{List, [], ◌∷◌, ℕ, Result, Ok, Err}
+use Rattle.frames.specs.Refusals.{number_of}
 use Rattle.frames.specs.declared.read.Part.{Part}
-use Rattle.records.specs.declared.parse.Parsed.{Parsed}
-use Rattle.records.specs.declared.parse.Parsed.TheVariants as parsed
 use Rattle.records.specs.declared.record.FileMeta.{FileMeta}
 use Rattle.records.specs.declared.record.FileMeta.TheVariants as file
 use Rattle.records.specs.declared.record.Meta.{Meta}
 use Rattle.records.specs.declared.record.Meta.TheVariants as meta
-use Rattle.records.specs.declared.record.Record.{Record}
-use Rattle.records.specs.declared.record.Record.TheVariants as shown
+use Rattle.records.specs.declared.record.Record.TheVariants as kind
 use Rattle.records.specs.declared.position.Answer.{Answer}
 use Rattle.records.specs.declared.position.Answer.TheVariants as answer
 use Rattle.records.specs.Contents.RecordType.{magic, arch, register_name_map, unknown_file_meta, map, unmap, instruction, pc}
@@ -48,20 +48,20 @@ meta_fields (meta.MemoryReallocated a b c) = fields (number memory_reallocated) 
 meta_fields (meta.Unknown a p) = fields (number unknown_meta) a 0 0 p
 
 unfoldable pub fields_of : Record → Fields
-fields_of shown.Magic = fields (number magic) 0 0 0 none
-fields_of (shown.Arch p) = fields (number arch) 0 0 0 p
-fields_of (shown.FileMeta m) = file_meta_fields m
-fields_of (shown.Map a p) = fields (number map) a 0 0 p
-fields_of (shown.Unmap a b) = fields (number unmap) a b 0 none
-fields_of (shown.Instruction a p) = fields (number instruction) a 0 0 p
-fields_of (shown.Pc a) = fields (number pc) a 0 0 none
-fields_of (shown.Meta m) = meta_fields m
-fields_of (shown.Interrupt a b) = fields (number interrupt) a b 0 none
-fields_of (shown.RegRead a p) = fields (number reg_read) a.0 0 0 p
-fields_of (shown.RegWrite a p) = fields (number reg_write) a.0 0 0 p
-fields_of (shown.RegWriteNative a p) = fields (number reg_write_native) a.0 0 0 p
-fields_of (shown.MemRead a p) = fields (number mem_read) a 0 0 p
-fields_of (shown.MemWrite a p) = fields (number mem_write) a 0 0 p
+fields_of kind.Magic = fields (number magic) 0 0 0 none
+fields_of (kind.Arch p) = fields (number arch) 0 0 0 p
+fields_of (kind.FileMeta m) = file_meta_fields m
+fields_of (kind.Map a p) = fields (number map) a 0 0 p
+fields_of (kind.Unmap a b) = fields (number unmap) a b 0 none
+fields_of (kind.Instruction a p) = fields (number instruction) a 0 0 p
+fields_of (kind.Pc a) = fields (number pc) a 0 0 none
+fields_of (kind.Meta m) = meta_fields m
+fields_of (kind.Interrupt a b) = fields (number interrupt) a b 0 none
+fields_of (kind.RegRead a p) = fields (number reg_read) a.0 0 0 p
+fields_of (kind.RegWrite a p) = fields (number reg_write) a.0 0 0 p
+fields_of (kind.RegWriteNative a p) = fields (number reg_write_native) a.0 0 0 p
+fields_of (kind.MemRead a p) = fields (number mem_read) a 0 0 p
+fields_of (kind.MemWrite a p) = fields (number mem_write) a 0 0 p
 
 -- ---- struct aglimtaq_reading
 
@@ -71,14 +71,18 @@ nothing = 0 ∷ 0 ∷ 0 ∷ 0 ∷ 0 ∷ 0 ∷ []
 unfoldable pub numbers_of : Fields → List ℕ
 numbers_of f = f.type_number ∷ f.a ∷ f.b ∷ f.c ∷ f.part.start ∷ f.part.end ∷ []
 
+-- SHOWN, a number that is not used, start and end, and the record
+abbrev pub shown : Part → Fields → List ℕ
+shown q f = 0 ∷ 0 ∷ q.start ∷ q.end ∷ numbers_of f
+
 -- enum aglimtaq_answer, number, start and end, and the record
 unfoldable pub flat_answer : Answer → List ℕ
-flat_answer (answer.Shown r q) = 0 ∷ 0 ∷ q.start ∷ q.end ∷ numbers_of (fields_of r)
-flat_answer (answer.RefusedAt n q) = 1 ∷ n ∷ q.start ∷ q.end ∷ nothing
-flat_answer (answer.Refused n) = 2 ∷ n ∷ 0 ∷ 0 ∷ nothing
+flat_answer (answer.Shown r q) = shown q (fields_of r)
+flat_answer (answer.RefusedAt r q) = 1 ∷ number_of r ∷ q.start ∷ q.end ∷ nothing
+flat_answer (answer.Refused r) = 2 ∷ number_of r ∷ 0 ∷ 0 ∷ nothing
 flat_answer answer.Finished = 3 ∷ 0 ∷ 0 ∷ 0 ∷ nothing
 flat_answer (answer.Unfinished n) = 4 ∷ n ∷ 0 ∷ 0 ∷ nothing
 
-unfoldable pub flat_parsed : Parsed → List ℕ
-flat_parsed (parsed.Shown r) = 0 ∷ 0 ∷ 0 ∷ 0 ∷ numbers_of (fields_of r)
-flat_parsed (parsed.Refused n) = 2 ∷ n ∷ 0 ∷ 0 ∷ nothing
+unfoldable pub flat_parsed : Result Record Refusal → List ℕ
+flat_parsed (Ok r) = shown none (fields_of r)
+flat_parsed (Err r) = 2 ∷ number_of r ∷ 0 ∷ 0 ∷ nothing

@@ -1,14 +1,13 @@
 -- What the contracts of inner functions of the house calls cite: nothing that a reader of the public ones must believe. Assumes nothing.
-use Rattle.std.specs.Prelude.{cond, ◌&&◌, List, ℕ, ltb, eqb, get_or}
+use Rattle.frames.specs.declared.refusal.Refusal.{Refusal}
+use Rattle.records.specs.declared.address.AddressForm.{AddressForm}
+use Rattle.std.specs.Prelude.{cond, ◌&&◌, List, ℕ, ltb, eqb, get_or, Err, Option, Some, None}
 use Rattle.frames.specs.declared.read.Part.{Part}
-use Rattle.records.specs.declared.judge.Verdict.{Verdict}
 use Rattle.records.specs.Contents.RecordType.{unknown_meta}
 use Rattle.records.specs.Reading.{lent_part}
-use Rattle.records.specs.Positions.{pending_of, unless_open}
+use Rattle.records.specs.Positions.{unless_open}
 use Rattle.house.specs.Gauges.{gauge_of}
 use Rattle.house.specs.House.{gauge_at}
-use Rattle.trace_c.specs.declared.form.Formed.{Formed}
-use Rattle.trace_c.specs.declared.form.Formed.TheVariants as formed
 use Rattle.trace_c.specs.Types.{number}
 use Rattle.trace_c.specs.Forms.{placed}
 use Rattle.trace_c.specs.Writing.{verdict_number}
@@ -25,8 +24,8 @@ told_of s r =
     r
 
 -- what a house write of bytes that are no house reading returns
-unfoldable pub refusal_by : ℕ → List ℕ → ℕ → Formed → ℕ
-refusal_by lent p n (formed.Form f) =
+unfoldable pub refusal_by : ℕ → List ℕ → Refusal → Option AddressForm → ℕ
+refusal_by lent p r (Some f) =
     let q = placed p f in
-    verdict_number (unless_open (pending_of q) (cond (ltb lent q.at) (Verdict.Refused 8) (Verdict.Refused n)))
-refusal_by lent p n formed.Nothing = 257
+    verdict_number (unless_open q.pending (cond (ltb lent q.at) (Err Refusal.BeyondEnd) (Err r)))
+refusal_by lent p r None = 257

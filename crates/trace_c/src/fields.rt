@@ -1,6 +1,6 @@
 // What was read, as the numbers that include/trace.h has for it.
 ghost use Rattle.std.specs.Prelude.{◌≡◌};
-ghost use Rattle.trace_c.specs.Fields.{fields, none, file_meta_fields, meta_fields, fields_of, flat_answer, flat_parsed};
+ghost use Rattle.trace_c.specs.Fields.{fields, none, file_meta_fields, meta_fields, fields_of, shown, flat_answer, flat_parsed};
 
 use crate::types::{
     ADDRESS_DEPENDENCY_EDGE, ARCH, CALL_BEGIN, CALL_END, CALL_MODELED_OPS_END, INSTRUCTION,
@@ -9,11 +9,11 @@ use crate::types::{
     REGISTER_DEPENDENCY_EDGE, REGISTER_NAME_MAP, THREAD_ID, UNKNOWN_FILE_META, UNKNOWN_META, UNMAP,
 };
 use frames::read::Part;
-use records::parse::Parsed;
+use frames::refusal::Refusal;
 use records::position::Answer;
 use records::record::{FileMeta, Meta, Record};
 
-// A record: its type's number, its numbers, and where its bytes lie.
+// A record: its type's number, its numbers, and where its bytes lie. Nothing compares or prints it.
 #[derive(Clone, Copy)]
 pub struct Fields {
     pub type_number: u64,
@@ -36,6 +36,7 @@ fn with_bytes(type_number: u64, a: u64, part: Part) -> Fields
     }
 }
 
+// A record of numbers alone: four arguments, which are four fields of what it makes.
 pub(crate) fn numbers(type_number: u64, a: u64, b: u64, c: u64) -> Fields
     ensures { result ≡ fields type_number a b c none }
 {
@@ -48,6 +49,7 @@ pub(crate) fn numbers(type_number: u64, a: u64, b: u64, c: u64) -> Fields
     }
 }
 
+#[tactic(auto, unfolding(crate::specs::Fields::file_meta_fields))]
 fn of_file_meta(file_meta: FileMeta) -> Fields
     ensures { result ≡ file_meta_fields file_meta }
 {
@@ -60,6 +62,7 @@ fn of_file_meta(file_meta: FileMeta) -> Fields
     }
 }
 
+#[tactic(auto, unfolding(crate::specs::Fields::meta_fields))]
 fn of_meta(meta: Meta) -> Fields
     ensures { result ≡ meta_fields meta }
 {
@@ -99,6 +102,7 @@ fn of_meta(meta: Meta) -> Fields
     }
 }
 
+#[tactic(auto, unfolding(crate::specs::Fields::fields_of))]
 fn of_record(record: Record) -> Fields
     ensures { result ≡ fields_of «record» }
 {
@@ -124,30 +128,36 @@ fn of_record(record: Record) -> Fields
     }
 }
 
+// A shown record that lies in `part`, as the numbers of struct aglimtaq_reading, in order.
+#[tactic(auto, unfolding(crate::specs::Fields::numbers_of))]
+pub(crate) fn shown(part: Part, fields: Fields) -> [u64; 10]
+    ensures { result ≡ shown part fields }
+{
+    let own = fields.part;
+    [
+        0,
+        0,
+        part.start as u64,
+        part.end as u64,
+        fields.type_number,
+        fields.a,
+        fields.b,
+        fields.c,
+        own.start as u64,
+        own.end as u64,
+    ]
+}
+
 // The numbers of struct aglimtaq_reading, in order.
+#[tactic(auto, unfolding(crate::specs::Fields::flat_answer))]
 pub fn of_answer(answer: Answer) -> [u64; 10]
     ensures { result ≡ flat_answer answer }
 {
     match answer {
-        Answer::Shown(record, part) => {
-            let f = of_record(record);
-            let own = f.part;
-            [
-                0,
-                0,
-                part.start as u64,
-                part.end as u64,
-                f.type_number,
-                f.a,
-                f.b,
-                f.c,
-                own.start as u64,
-                own.end as u64,
-            ]
-        }
-        Answer::RefusedAt(number, part) => [
+        Answer::Shown(record, part) => shown(part, of_record(record)),
+        Answer::RefusedAt(refusal, part) => [
             1,
-            number as u64,
+            refusal.number() as u64,
             part.start as u64,
             part.end as u64,
             0,
@@ -157,32 +167,18 @@ pub fn of_answer(answer: Answer) -> [u64; 10]
             0,
             0,
         ],
-        Answer::Refused(number) => [2, number as u64, 0, 0, 0, 0, 0, 0, 0, 0],
+        Answer::Refused(refusal) => [2, refusal.number() as u64, 0, 0, 0, 0, 0, 0, 0, 0],
         Answer::Finished => [3, 0, 0, 0, 0, 0, 0, 0, 0, 0],
         Answer::Unfinished(wanted) => [4, wanted as u64, 0, 0, 0, 0, 0, 0, 0, 0],
     }
 }
 
-pub(crate) fn of_parsed(parsed: Parsed) -> [u64; 10]
+#[tactic(auto, unfolding(crate::specs::Fields::flat_parsed))]
+pub(crate) fn of_parsed(parsed: Result<Record, Refusal>) -> [u64; 10]
     ensures { result ≡ flat_parsed parsed }
 {
     match parsed {
-        Parsed::Shown(record) => {
-            let f = of_record(record);
-            let own = f.part;
-            [
-                0,
-                0,
-                0,
-                0,
-                f.type_number,
-                f.a,
-                f.b,
-                f.c,
-                own.start as u64,
-                own.end as u64,
-            ]
-        }
-        Parsed::Refused(number) => [2, number as u64, 0, 0, 0, 0, 0, 0, 0, 0],
+        Ok(record) => shown(Part { start: 0, end: 0 }, of_record(record)),
+        Err(refusal) => [2, refusal.number() as u64, 0, 0, 0, 0, 0, 0, 0, 0],
     }
 }

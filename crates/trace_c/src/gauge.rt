@@ -1,28 +1,31 @@
-// The house family of Meta tag 200, read and written by numbers and byte slices: over the plain calls, so that these stay
-// as fast as they are. With a second caller the functions beneath would no longer be inlined.
+// The house family of Meta tag 200, read and written by numbers and byte slices: over the plain calls, so that these
+// stay as fast as they are. With a second caller the functions beneath would no longer be inlined. Forwards and
+// backwards are two functions of C, with two lines each.
 ghost use Rattle.std.specs.Prelude.{◌≡◌, length};
 ghost use Rattle.house.specs.House.{house_next, house_previous};
 ghost use Rattle.trace_c.specs.Forms.{form_of, form_in};
 ghost use Rattle.trace_c.specs.Gauges.{gauge_fields, house_reading_by, house_place_by, house_number, house_left, house_out};
-ghost use Rattle.trace_c.specs.Gauges.{gauge_fits, gauge_built, gauge_given, gauge_from, no_gauge, gauge_number, gauge_left, gauge_out};
+ghost use Rattle.trace_c.specs.Gauges.{gauge_given, gauge_from, no_gauge, gauge_number, gauge_left, gauge_out};
 ghost use Rattle.trace_c.specs.InnerGauges.{told_of, refusal_by};
 
-use crate::fields::{Fields, numbers};
-use crate::form::{Formed, NOT_A_FORM, form_of};
-use crate::given::{low8, low16};
+use crate::fields::{Fields, numbers, shown};
+use crate::form::{NOT_A_FORM, form_of};
 use crate::place::place_of;
 use crate::read::{aglimtaq_read_next, aglimtaq_read_previous};
 use crate::types::{DISTANCE_LEFT, FUEL, RESERVE_LAMP, UNKNOWN_META};
-use crate::write::{aglimtaq_write, number_of};
+use crate::write::{NO_RECORD, aglimtaq_write, number_of};
 use frames::read::Part;
-use house::gauge::{Gauge, Parsed, gauge_of, put_gauge};
+use frames::refusal::Refusal;
+use house::gauge::{Gauge, gauge_of, put_gauge};
+use house::read::TAG;
 use house::write::refused;
 use records::bytes::bytes as lent_bytes;
 
-// The tag of the family.
-const HOUSE_TAG: u64 = 200;
+// The tag of the family, as C has numbers.
+const HOUSE_TAG: u64 = TAG as u64;
 
 // A house reading: its type's number, its value and its tick.
+#[tactic(auto, unfolding(crate::specs::Gauges::gauge_fields))]
 fn of_gauge(gauge: Gauge) -> Fields
     ensures { result ≡ gauge_fields gauge }
 {
@@ -50,16 +53,19 @@ fn tell(bytes: &[u8], reading: &mut [u64; 10])
     }
     let start = reading[2];
     let end = reading[3];
-    let part = Part {
+    let contents = Part {
         start: reading[8] as usize,
         end: reading[9] as usize,
     };
-    match gauge_of(lent_bytes(bytes, part)) {
-        Parsed::Shown(gauge) => {
-            let f = of_gauge(gauge);
-            *reading = [0, 0, start, end, f.type_number, f.a, f.b, 0, 0, 0];
+    match gauge_of(lent_bytes(bytes, contents)) {
+        Ok(gauge) => {
+            let part = Part {
+                start: start as usize,
+                end: end as usize,
+            };
+            *reading = shown(part, of_gauge(gauge));
         }
-        Parsed::Refused(number) => *reading = [1, number as u64, start, end, 0, 0, 0, 0, 0, 0],
+        Err(refusal) => *reading = [1, refusal.number() as u64, start, end, 0, 0, 0, 0, 0, 0],
     }
 }
 
@@ -80,16 +86,15 @@ pub fn aglimtaq_house_previous(bytes: &[u8], position: &mut [u64; 6], reading: &
 }
 
 // What a house write of bytes that are no house reading returns.
-fn refusal_by(numbers: [u64; 6], lent: usize, number: u8) -> u64
-    ensures { result ≡ refusal_by lent numbers number (form_in numbers) }
+fn refusal_by(numbers: [u64; 6], lent: usize, refusal: Refusal) -> u64
+    ensures { result ≡ refusal_by lent numbers refusal (form_in numbers) }
 {
     match form_of(numbers[1]) {
-        Formed::Form(form) => {
-            let written = refused(place_of(numbers, form), lent, number);
-            let verdict = written.verdict;
-            number_of(verdict)
+        Some(form) => {
+            let written = refused(place_of(numbers, form), lent, refusal);
+            number_of(written.verdict)
         }
-        Formed::Nothing => NOT_A_FORM,
+        None => NOT_A_FORM,
     }
 }
 
@@ -99,71 +104,45 @@ pub fn aglimtaq_house_write(out: &mut [u8], position: &mut [u64; 6], bytes: &[u8
     ensures out_after { out.new ≡ house_out out.old position.old bytes.now (form_in position.old) }
 {
     match gauge_of(bytes) {
-        Parsed::Shown(_) => {
+        Ok(_) => {
             let record = [UNKNOWN_META, HOUSE_TAG, 0, 0];
             aglimtaq_write(out, position, &record, bytes)
         }
-        Parsed::Refused(number) => refusal_by(*position, out.len(), number),
+        Err(refusal) => refusal_by(*position, out.len(), refusal),
     }
 }
 
-// The house reading, or none where its type is none of the three or its value does not fit.
-#[derive(Clone, Copy)]
-pub enum GivenGauge {
-    Gauge(Gauge),
-    Nothing,
-}
-
-// Whether the value fits the type.
-fn gauge_fits(t: u64, value: u64) -> bool
-    ensures { result ≡ gauge_fits t value }
-{
-    match t {
-        FUEL => value < 65536,
-        DISTANCE_LEFT => value < 65536,
-        RESERVE_LAMP => value < 256,
-        _ => true,
-    }
-}
-
-// The house reading that numbers make.
-fn build_gauge(t: u64, value: u64, tick: u64) -> GivenGauge
-    ensures { result ≡ gauge_built t value tick }
-{
-    match t {
-        FUEL => GivenGauge::Gauge(Gauge::Fuel {
-            tenths: low16(value),
-            tick,
-        }),
-        DISTANCE_LEFT => GivenGauge::Gauge(Gauge::DistanceLeft {
-            kilometres: low16(value),
-            tick,
-        }),
-        RESERVE_LAMP => GivenGauge::Gauge(Gauge::ReserveLamp {
-            lamp: low8(value),
-            tick,
-        }),
-        _ => GivenGauge::Nothing,
-    }
-}
-
-pub fn gauge_given(t: u64, value: u64, tick: u64) -> GivenGauge
+// The house reading, or none where its type is none of the three or its value does not fit. No `TryFrom`: `Gauge` is of
+// the crate house, which knows nothing of C's numbers, and no other crate may implement it.
+#[tactic(auto, unfolding(crate::specs::Gauges::gauge_fits, crate::specs::Gauges::gauge_built, crate::specs::Gauges::gauge_given))]
+pub fn gauge_given(t: u64, value: u64, tick: u64) -> Option<Gauge>
     ensures { result ≡ gauge_given t value tick }
 {
-    if gauge_fits(t, value) {
-        build_gauge(t, value, tick)
-    } else {
-        GivenGauge::Nothing
+    match t {
+        FUEL => Some(Gauge::Fuel {
+            tenths: u16::try_from(value).ok()?,
+            tick,
+        }),
+        DISTANCE_LEFT => Some(Gauge::DistanceLeft {
+            kilometres: u16::try_from(value).ok()?,
+            tick,
+        }),
+        RESERVE_LAMP => Some(Gauge::ReserveLamp {
+            lamp: u8::try_from(value).ok()?,
+            tick,
+        }),
+        _ => None,
     }
 }
 
 // What is returned where no house reading was given, by the number of the form.
+#[tactic(auto, unfolding(crate::specs::Gauges::no_gauge))]
 fn no_gauge(form: u64) -> u64
     ensures { result ≡ no_gauge (form_of form) }
 {
     match form_of(form) {
-        Formed::Form(_) => 256,
-        Formed::Nothing => NOT_A_FORM,
+        Some(_) => NO_RECORD,
+        None => NOT_A_FORM,
     }
 }
 
@@ -173,11 +152,12 @@ pub fn aglimtaq_house_write_gauge(out: &mut [u8], position: &mut [u64; 6], gauge
     ensures out_after { out.new ≡ gauge_out out.old position.old (gauge_from gauge.now) (form_in position.old) }
 {
     match gauge_given(gauge[0], gauge[1], gauge[2]) {
-        GivenGauge::Gauge(given) => {
+        Some(given) => {
+            // No function allocates, so the buffer is fixed, and n says how much of it is put.
             let mut bytes = [0u8; 11];
             let n = put_gauge(&mut bytes, given);
             aglimtaq_house_write(out, position, &bytes[..n])
         }
-        GivenGauge::Nothing => no_gauge(position[1]),
+        None => no_gauge(position[1]),
     }
 }

@@ -1,6 +1,7 @@
-// A record to be written, from the numbers that C hands over for it: struct aglimtaq_record of include/trace.h.
-ghost use Rattle.std.specs.Prelude.{◌≡◌, ◌%◌, ◌^◌};
-ghost use Rattle.trace_c.specs.Given.{fitting, built_meta, built, new_of};
+// A record to be written, from the numbers that C hands over for it: struct aglimtaq_record of include/trace.h. They
+// are four arguments, t, a, b and c, as in the clauses: `new_of` and `fitting` of specs/Given.antt.
+ghost use Rattle.std.specs.Prelude.{◌≡◌, cond, None};
+ghost use Rattle.trace_c.specs.Given.{fitting, built_meta, new_of};
 
 use crate::types::{
     ADDRESS_DEPENDENCY_EDGE, CALL_BEGIN, CALL_END, CALL_MODELED_OPS_END, INSTRUCTION,
@@ -11,134 +12,82 @@ use crate::types::{
 use records::new_record::{NewFileMeta, NewMeta, NewRecord};
 use records::record::{NativeRegister, Register};
 
-// The record, or none where its type is not written or a number does not fit.
-#[derive(Clone, Copy)]
-pub enum Given {
-    Record(NewRecord),
-    Nothing,
-}
-
-// Whether the numbers fit the type.
-fn fits(t: u64, a: u64, b: u64, c: u64) -> bool
-    ensures { result ≡ fitting t a b c }
+// The Meta that numbers make, or none where they make none or one does not fit.
+#[tactic(auto, unfolding(crate::specs::Given::fitting, crate::specs::Given::built_meta))]
+fn build_meta(t: u64, a: u64, b: u64, c: u64) -> Option<NewRecord>
+    ensures { result ≡ cond (fitting t a b c) (built_meta t a b c) None }
 {
     match t {
-        REGISTER_NAME_MAP => a < 256,
-        UNKNOWN_FILE_META => a < 256,
-        UNKNOWN_META => a < 256,
-        REG_WRITE_NATIVE => a < 65536,
-        THREAD_ID => a < 4294967296,
-        REGISTER_DEPENDENCY_EDGE => a < 4294967296,
-        INTERRUPT => a < 4294967296,
-        REG_READ => a < 4294967296,
-        REG_WRITE => a < 4294967296,
-        MEMORY_ALLOCATED => b < 4294967296,
-        MEMORY_FREED => b < 4294967296,
-        MEMORY_REALLOCATED => c < 4294967296,
-        _ => true,
-    }
-}
-
-// The low 8, 16 or 32 bits of a number.
-pub(crate) fn low8(n: u64) -> u8
-    ensures { result ≡ n % 2 ^ 8 }
-{
-    (n % 256) as u8
-}
-
-pub(crate) fn low16(n: u64) -> u16
-    ensures { result ≡ n % 2 ^ 16 }
-{
-    (n % 65536) as u16
-}
-
-fn low32(n: u64) -> u32
-    ensures { result ≡ n % 2 ^ 32 }
-{
-    (n % 4294967296) as u32
-}
-
-// The Meta that numbers make.
-fn build_meta(t: u64, a: u64, b: u64, c: u64) -> Given
-    ensures { result ≡ built_meta t a b c }
-{
-    match t {
-        INSTRUCTION_COUNT => Given::Record(NewRecord::Meta(NewMeta::InstructionCount { tick: a })),
-        THREAD_ID => Given::Record(NewRecord::Meta(NewMeta::ThreadId { threadid: low32(a) })),
-        PROCESS_ID => Given::Record(NewRecord::Meta(NewMeta::ProcessId { processid: a })),
-        CALL_BEGIN => Given::Record(NewRecord::Meta(NewMeta::CallBegin { address: a })),
-        CALL_MODELED_OPS_END => Given::Record(NewRecord::Meta(NewMeta::CallModeledOpsEnd)),
-        CALL_END => Given::Record(NewRecord::Meta(NewMeta::CallEnd {
+        INSTRUCTION_COUNT => Some(NewRecord::Meta(NewMeta::InstructionCount { tick: a })),
+        THREAD_ID => Some(NewRecord::Meta(NewMeta::ThreadId {
+            threadid: u32::try_from(a).ok()?,
+        })),
+        PROCESS_ID => Some(NewRecord::Meta(NewMeta::ProcessId { processid: a })),
+        CALL_BEGIN => Some(NewRecord::Meta(NewMeta::CallBegin { address: a })),
+        CALL_MODELED_OPS_END => Some(NewRecord::Meta(NewMeta::CallModeledOpsEnd)),
+        CALL_END => Some(NewRecord::Meta(NewMeta::CallEnd {
             call_instruction_addr: a,
         })),
-        OPERAND_UNCERTAIN => Given::Record(NewRecord::Meta(NewMeta::OperandUncertain)),
-        ADDRESS_DEPENDENCY_EDGE => Given::Record(NewRecord::Meta(NewMeta::AddressDependencyEdge {
+        OPERAND_UNCERTAIN => Some(NewRecord::Meta(NewMeta::OperandUncertain)),
+        ADDRESS_DEPENDENCY_EDGE => Some(NewRecord::Meta(NewMeta::AddressDependencyEdge {
             address: a,
         })),
-        REGISTER_DEPENDENCY_EDGE => Given::Record(NewRecord::Meta(
-            NewMeta::RegisterDependencyEdge {
-                register: Register(low32(a)),
-            },
-        )),
-        MEMORY_ALLOCATED => Given::Record(NewRecord::Meta(NewMeta::MemoryAllocated {
-            address: a,
-            size: low32(b),
+        REGISTER_DEPENDENCY_EDGE => Some(NewRecord::Meta(NewMeta::RegisterDependencyEdge {
+            register: Register(u32::try_from(a).ok()?),
         })),
-        MEMORY_FREED => Given::Record(NewRecord::Meta(NewMeta::MemoryFreed {
+        MEMORY_ALLOCATED => Some(NewRecord::Meta(NewMeta::MemoryAllocated {
             address: a,
-            size: low32(b),
+            size: u32::try_from(b).ok()?,
         })),
-        MEMORY_REALLOCATED => Given::Record(NewRecord::Meta(NewMeta::MemoryReallocated {
+        MEMORY_FREED => Some(NewRecord::Meta(NewMeta::MemoryFreed {
+            address: a,
+            size: u32::try_from(b).ok()?,
+        })),
+        MEMORY_REALLOCATED => Some(NewRecord::Meta(NewMeta::MemoryReallocated {
             new_address: a,
             old_address: b,
-            size: low32(c),
+            size: u32::try_from(c).ok()?,
         })),
-        UNKNOWN_META => Given::Record(NewRecord::Meta(NewMeta::Unknown { tag: low8(a) })),
-        _ => Given::Nothing,
+        UNKNOWN_META => Some(NewRecord::Meta(NewMeta::Unknown {
+            tag: u8::try_from(a).ok()?,
+        })),
+        _ => None,
     }
 }
 
-// The record that numbers make.
-fn build(t: u64, a: u64, b: u64, c: u64) -> Given
-    ensures { result ≡ built t a b c }
-{
-    match t {
-        MAGIC => Given::Record(NewRecord::Magic),
-        REGISTER_NAME_MAP => Given::Record(NewRecord::FileMeta(NewFileMeta::RegisterNameMap {
-            num_records: low8(a),
-        })),
-        UNKNOWN_FILE_META => Given::Record(NewRecord::FileMeta(NewFileMeta::Unknown {
-            tag: low8(a),
-        })),
-        MAP => Given::Record(NewRecord::Map { base: a }),
-        UNMAP => Given::Record(NewRecord::Unmap { base: a, length: b }),
-        INSTRUCTION => Given::Record(NewRecord::Instruction { pc: a }),
-        PC => Given::Record(NewRecord::Pc { pc: a }),
-        INTERRUPT => Given::Record(NewRecord::Interrupt {
-            num: low32(a),
-            tick: b,
-        }),
-        REG_READ => Given::Record(NewRecord::RegRead {
-            regnum: Register(low32(a)),
-        }),
-        REG_WRITE => Given::Record(NewRecord::RegWrite {
-            regnum: Register(low32(a)),
-        }),
-        REG_WRITE_NATIVE => Given::Record(NewRecord::RegWriteNative {
-            regnum: NativeRegister(low16(a)),
-        }),
-        MEM_READ => Given::Record(NewRecord::MemRead { address: a }),
-        MEM_WRITE => Given::Record(NewRecord::MemWrite { address: a }),
-        _ => build_meta(t, a, b, c),
-    }
-}
-
-pub fn new_of(t: u64, a: u64, b: u64, c: u64) -> Given
+// The record, or none where its type is not written or a number does not fit. No `TryFrom`: `NewRecord` is of the crate
+// records, which knows nothing of C's numbers, and no other crate may implement it.
+#[tactic(auto, unfolding(crate::specs::Given::fitting, crate::specs::Given::built, crate::specs::Given::new_of))]
+pub fn new_of(t: u64, a: u64, b: u64, c: u64) -> Option<NewRecord>
     ensures { result ≡ new_of t a b c }
 {
-    if fits(t, a, b, c) {
-        build(t, a, b, c)
-    } else {
-        Given::Nothing
+    match t {
+        MAGIC => Some(NewRecord::Magic),
+        REGISTER_NAME_MAP => Some(NewRecord::FileMeta(NewFileMeta::RegisterNameMap {
+            num_records: u8::try_from(a).ok()?,
+        })),
+        UNKNOWN_FILE_META => Some(NewRecord::FileMeta(NewFileMeta::Unknown {
+            tag: u8::try_from(a).ok()?,
+        })),
+        MAP => Some(NewRecord::Map { base: a }),
+        UNMAP => Some(NewRecord::Unmap { base: a, length: b }),
+        INSTRUCTION => Some(NewRecord::Instruction { pc: a }),
+        PC => Some(NewRecord::Pc { pc: a }),
+        INTERRUPT => Some(NewRecord::Interrupt {
+            num: u32::try_from(a).ok()?,
+            tick: b,
+        }),
+        REG_READ => Some(NewRecord::RegRead {
+            regnum: Register(u32::try_from(a).ok()?),
+        }),
+        REG_WRITE => Some(NewRecord::RegWrite {
+            regnum: Register(u32::try_from(a).ok()?),
+        }),
+        REG_WRITE_NATIVE => Some(NewRecord::RegWriteNative {
+            regnum: NativeRegister(u16::try_from(a).ok()?),
+        }),
+        MEM_READ => Some(NewRecord::MemRead { address: a }),
+        MEM_WRITE => Some(NewRecord::MemWrite { address: a }),
+        _ => build_meta(t, a, b, c),
     }
 }

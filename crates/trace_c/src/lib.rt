@@ -1,5 +1,5 @@
-// The functions that Rust calls, and that C calls by the static library over them, trace_c_c. include/trace.h explains the
-// arguments and the numbers; a struct there is here the array of its numbers.
+// The functions that Rust calls, and that C calls by the static library over them, trace_c_c. include/trace.h explains
+// the arguments and the numbers; a struct there is here the array of its numbers.
 #![tactic(auto)]
 
 mod direct;

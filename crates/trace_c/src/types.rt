@@ -1,5 +1,5 @@
 // The numbers of the record types for C, each named here once: enum aglimtaq_type of include/trace.h, in the source's
-// order. A type that is added later gets the next number.
+// order. A type that is added later gets the next number. They are numbers and no enum here, since C may hand over any.
 pub(crate) const MAGIC: u64 = 1;
 
 pub(crate) const ARCH: u64 = 2;

@@ -7,5 +7,5 @@ use numbers::text::is_utf8;
 pub fn aglimtaq_is_utf8(bytes: &[u8]) -> u64
     ensures { result ≡ cond (utf8 bytes.now) 1 0 }
 {
-    if is_utf8(bytes) { 1 } else { 0 }
+    u64::from(is_utf8(bytes))
 }

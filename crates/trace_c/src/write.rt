@@ -6,17 +6,22 @@ ghost use Rattle.trace_c.specs.Forms.{form_in};
 ghost use Rattle.trace_c.specs.Writing.{given, call_by, verdict_number, written_number, written_place, written_bytes};
 
 use crate::direct::write_direct;
-use crate::form::{Formed, NOT_A_FORM, form_of};
-use crate::given::{Given, new_of};
+use crate::form::{NOT_A_FORM, form_of};
+use crate::given::new_of;
 use crate::place::place_of;
-use records::judge::Verdict;
+use frames::refusal::Refusal;
 
-pub(crate) fn number_of(verdict: Verdict) -> u64
+// The number that C is given where no record was given: include/trace.h.
+pub(crate) const NO_RECORD: u64 = 256;
+
+// 0, or the refusal's number, for C. No `From`: `Result` and u64 are both of std, so no crate here may implement it.
+#[tactic(auto, unfolding(crate::specs::Writing::verdict_number))]
+pub(crate) fn number_of(verdict: Result<(), Refusal>) -> u64
     ensures { result ≡ verdict_number verdict }
 {
     match verdict {
-        Verdict::Accepted => 0,
-        Verdict::Refused(number) => number as u64,
+        Ok(()) => 0,
+        Err(refusal) => refusal.number() as u64,
     }
 }
 
@@ -31,25 +36,25 @@ pub fn aglimtaq_write(
     ensures out_after { out.new ≡ written_bytes out.old position.old bytes.now (given «record».now) (form_in position.old) }
     ensures every { Every Fits (call_by bytes.now (given «record».now) (form_in position.old)) }
 {
-    match form_of(position[1]) {
-        Formed::Form(form) => {
-            let at = position[0] as usize;
-            let direct = write_direct(out, at, form, position[2], record[0], record[1], bytes);
-            if direct.made {
-                position[0] = direct.at as u64;
-                return direct.number;
+    let Some(form) = form_of(position[1]) else {
+        return NOT_A_FORM;
+    };
+    let at = position[0] as usize;
+    let direct = write_direct(out, at, form, position[2], record[0], record[1], bytes);
+    if let Some(done) = direct {
+        return match done {
+            Ok(end) => {
+                position[0] = end as u64;
+                0
             }
-            match new_of(record[0], record[1], record[2], record[3]) {
-                Given::Record(new) => {
-                    let written = place_of(*position, form).write(out, new, bytes);
-                    let place = written.position;
-                    let verdict = written.verdict;
-                    position[0] = place.at as u64;
-                    number_of(verdict)
-                }
-                Given::Nothing => 256,
-            }
-        }
-        Formed::Nothing => NOT_A_FORM,
+            Err(refusal) => refusal.number() as u64,
+        };
     }
+    let Some(new) = new_of(record[0], record[1], record[2], record[3]) else {
+        return NO_RECORD;
+    };
+    let written = place_of(*position, form).write(out, new, bytes);
+    let place = written.position;
+    position[0] = place.at as u64;
+    number_of(written.verdict)
 }

@@ -1,5 +1,5 @@
-// The functions of trace_c for C, under the names of include/trace.h: each calls the function of the same name, and says
-// what that says.
+// The functions of trace_c for C, under the names of include/trace.h: each calls the function of the same name, and
+// says what that says.
 #![tactic(auto)]
 
 mod gauge;

@@ -2,14 +2,14 @@
 ghost use Rattle.std.specs.Prelude.{◌≡◌};
 ghost use Rattle.frames.specs.Frames.{needed, value_of};
 ghost use Rattle.records.specs.Reading.{next_name};
-ghost use Rattle.records.specs.Positions.{pending_of, visible, read_next, read_previous};
+ghost use Rattle.records.specs.Positions.{visible, read_next, read_previous};
 ghost use Rattle.trace_c.specs.Forms.{form_of, form_in};
 ghost use Rattle.trace_c.specs.Reading.{place_by, reading_by, parsed_by, flat_content, content_number, flat_name, name_number};
 
 #[unsafe(no_mangle)]
 pub extern "C" fn aglimtaq_read_next(bytes: &[u8], position: &mut [u64; 6], reading: &mut [u64; 10])
-    ensures position_after { position.new ≡ place_by (λ q. read_next (visible bytes.now (pending_of q)) q) position.old (form_in position.old) }
-    ensures reading_after { reading.new ≡ reading_by (λ q. read_next (visible bytes.now (pending_of q)) q) position.old (form_in position.old) }
+    ensures position_after { position.new ≡ place_by (λ q. read_next (visible bytes.now q.pending) q) position.old (form_in position.old) }
+    ensures reading_after { reading.new ≡ reading_by (λ q. read_next (visible bytes.now q.pending) q) position.old (form_in position.old) }
 {
     trace_c::aglimtaq_read_next(bytes, position, reading);
 }
@@ -20,8 +20,8 @@ pub extern "C" fn aglimtaq_read_previous(
     position: &mut [u64; 6],
     reading: &mut [u64; 10],
 )
-    ensures position_after { position.new ≡ place_by (λ q. read_previous (visible bytes.now (pending_of q)) q) position.old (form_in position.old) }
-    ensures reading_after { reading.new ≡ reading_by (λ q. read_previous (visible bytes.now (pending_of q)) q) position.old (form_in position.old) }
+    ensures position_after { position.new ≡ place_by (λ q. read_previous (visible bytes.now q.pending) q) position.old (form_in position.old) }
+    ensures reading_after { reading.new ≡ reading_by (λ q. read_previous (visible bytes.now q.pending) q) position.old (form_in position.old) }
 {
     trace_c::aglimtaq_read_previous(bytes, position, reading);
 }

@@ -1,12 +1,14 @@
 -- Texts computed from the definitions: numbers, and listings of small traces. What is due comes from document 01: the listing that it
 -- prints, and the number, length and kind of each record from "Bench examples". Assumes nothing.
+use Rattle.std.specs.Prelude.{Some}
 use mathlib.Core.Path.{◌≡◌, refl}
 use mathlib.Core.List.{List, [], ◌∷◌, ◌++◌, map}
 use Prim.Native.Nat.{ℕ}
 use Prim.Native.String.{String}
 use lib.ListN.{replicate}
+use Rattle.frames.specs.declared.refusal.Refusal.{Refusal}
 use Rattle.records.proofs.Opened.{opened}
-use Rattle.walk.specs.Walks.{frames, readings, forth}
+use Rattle.walk.specs.Walks.{frames, readings, number_in, forth}
 use Rattle.tracelist.specs.declared.line.Line.{Line}
 use Rattle.tracelist.specs.Listing.{record_line, line_as, line_of, ascii, leading, decimal_in, decimal, two_digits, fields, line_text, lines_text, listing}
 
@@ -29,12 +31,12 @@ numbers =
     ∷ row (decimal 18446744073709551615) "18446744073709551615"
     ∷ row (two_digits 0x08) "08"
     ∷ row (two_digits 0xf0) "f0"
-    ∷ row (line_text (Line.Record 65530 6 0x08 7)) "65530 6 08 7\n"
+    ∷ row (line_text (Line.Record 65530 6 0x08 (Some Refusal.UnknownKind))) "65530 6 08 7\n"
     ∷ row (line_text (Line.Unfinished 40 65540)) "unfinished 40 65540\n"
     ∷ []
 
 pub numbers_hold : map (λ (e : Example). e.gives) numbers ≡ map (λ (e : Example). e.due) numbers
-unfolding leading decimal_in decimal two_digits fields line_text
+unfolding number_in leading decimal_in decimal two_digits fields line_text
 numbers_hold = refl
 
 -- ---- traces
@@ -58,5 +60,5 @@ traces =
     ∷ []
 
 pub traces_hold : map (λ (e : Example). e.gives) traces ≡ map (λ (e : Example). e.due) traces
-unfolding opened frames readings forth record_line line_as line_of leading decimal_in decimal two_digits fields line_text lines_text listing
+unfolding opened frames readings number_in forth record_line line_as line_of leading decimal_in decimal two_digits fields line_text lines_text listing
 traces_hold = refl

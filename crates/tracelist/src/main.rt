@@ -16,12 +16,12 @@ use std::io::{Stderr, Stdout};
 fn show(stdout: Stdout, stderr: Stderr, s: &[u8])
     requires { length s.now ≤ 65536 }
 {
-    let listed = list(stdout, s);
-    if !listed.whole {
+    if list(stdout, s).is_err() {
         say_unwritten(stderr, b"tracelist");
     }
 }
 
+// No function allocates, so the space has the largest size, and n tells how much of it is the trace.
 fn main(rt: HostRuntime) {
     let mut space = io::large_buffer();
     let n = read_full(rt.stdin(), &mut space);

@@ -1,72 +1,69 @@
-// The book of a list: for each accepted call its type, its three numbers, where its slice lies in the
-// pool and how much of it is the record's, and where its frame starts and ends.
+// The book of a list: its accepted calls, and where the frame of each starts and ends.
+ghost use Rattle.std.specs.Prelude.{◌≤◌};
+
 use crate::calls::Call;
-use crate::rules::{NOTHING, slice_of};
+use crate::rules::{Taken, taken_of};
 use crate::shown::{SHOWN, Shown};
-use crate::slices::{part, same};
 use records::bytes::bytes;
 
+#[derive(Clone, Copy)]
+pub(crate) struct Entry<'a> {
+    pub(crate) call: Call<'a>,
+    pub(crate) from: usize,
+    pub(crate) to: usize,
+}
+
+// A list has sixty calls. The memory is fixed, so the count stands beside it.
 #[derive(Drop)]
-pub(crate) struct Entry {
-    pub(crate) call: Call,
-    pub(crate) from: u64,
-    pub(crate) to: u64,
+pub(crate) struct Book<'a> {
+    entries: [Entry<'a>; 60],
+    count: usize,
+    ghost held: { count ≤ 60 },
 }
 
-pub(crate) fn entry_at(book: &[[u64; 8]], i: usize) -> Entry {
-    let mut n = [0; 8];
-    if i < book.len() {
-        n = book[i];
+impl<'a> Book<'a> {
+    pub(crate) fn new() -> Book<'a> {
+        let call = Call {
+            t: 0,
+            a: 0,
+            b: 0,
+            c: 0,
+            slice: &[],
+        };
+        let none = Entry {
+            call,
+            from: 0,
+            to: 0,
+        };
+        Book {
+            entries: [none; 60],
+            count: 0,
+        }
     }
-    let call = Call {
-        t: n[0],
-        a: n[1],
-        b: n[2],
-        c: n[3],
-        start: n[4] as usize,
-        len: n[5] as usize,
-    };
-    Entry {
-        call,
-        from: n[6],
-        to: n[7],
-    }
-}
 
-// The first n entries.
-pub(crate) fn entries(book: &[[u64; 8]], n: usize) -> &[[u64; 8]] {
-    if n > book.len() {
-        return book;
+    pub(crate) fn entries(&self) -> &[Entry<'a>] {
+        &self.entries[..self.count]
     }
-    &book[0..n]
-}
 
-// A record has no bytes where its type takes none of the slice.
-fn kept(call: Call) -> usize {
-    if slice_of(call.t) == NOTHING {
-        0
-    } else {
-        call.len
+    pub(crate) fn enter(&mut self, call: Call<'a>, from: usize, to: usize) {
+        if self.count < 60 {
+            let call = kept(call);
+            self.entries[self.count] = Entry { call, from, to };
+            self.count += 1;
+        }
     }
 }
 
-pub(crate) fn enter(book: &mut [[u64; 8]], i: usize, call: Call, from: usize, to: usize) {
-    let n = [
-        call.t,
-        call.a,
-        call.b,
-        call.c,
-        call.start as u64,
-        kept(call) as u64,
-        from as u64,
-        to as u64,
-    ];
-    if i < book.len() {
-        book[i] = n;
+// The call as the book keeps it: without a slice, where its type takes none.
+fn kept(call: Call) -> Call {
+    match taken_of(call.t) {
+        Taken::Nothing => Call { slice: &[], ..call },
+        _ => call,
     }
 }
 
-fn same_frame(shown: Shown, entry: Entry) -> bool {
+// No derived equality, here and below: what is read and the book's entry are two types, with some fields in common.
+fn same_frame(shown: Shown, entry: &Entry) -> bool {
     shown.sort == SHOWN && shown.from == entry.from && shown.to == entry.to
 }
 
@@ -75,10 +72,7 @@ fn same_numbers(shown: Shown, call: Call) -> bool {
 }
 
 // Whether the reading of s shows the record that the book has.
-pub(crate) fn shows(s: &[u8], shown: Shown, pool: &[u8], entry: Entry) -> bool {
+pub(crate) fn shows(s: &[u8], shown: Shown, entry: &Entry) -> bool {
     let call = entry.call;
-    if same_frame(shown, entry) && same_numbers(shown, call) {
-        return same(bytes(s, shown.part), part(pool, call.start, call.len));
-    }
-    false
+    same_frame(shown, entry) && same_numbers(shown, call) && bytes(s, shown.part) == call.slice
 }

@@ -1,43 +1,35 @@
-// A call to write: a type, its numbers, and where its slice lies in the pool; drawn.
+// A call to write: a type, its numbers, and its slice, which is a part of the pool; drawn.
 ghost use Rattle.std.specs.Prelude.{◌≤◌};
 
-use crate::pool::{ANY, LISTS};
-use crate::random::{draw, number};
+use crate::pool::{ANY, LISTS, Pool};
+use crate::random::Random;
 use crate::rules::{addresses, shape_of};
 
+// The type is its number in include/trace.h, as the codec is asked by it and a line prints it.
 #[derive(Clone, Copy)]
-pub(crate) struct Call {
+pub(crate) struct Call<'a> {
     pub(crate) t: u64,
     pub(crate) a: u64,
     pub(crate) b: u64,
     pub(crate) c: u64,
-    pub(crate) start: usize,
-    pub(crate) len: usize,
+    pub(crate) slice: &'a [u8],
 }
 
 // One of the 26 types that are written; 2 is Arch.
-fn drawn_type(seed: &mut u64) -> u64 {
-    match draw(seed, 26) {
+fn drawn_type(random: &mut Random) -> u64 {
+    match random.draw(26) {
         0 => 1,
         n => 2 + n,
     }
 }
 
 // Addresses of `width` bytes; some at the border of four bytes, and a few of eight.
-fn drawn_address(seed: &mut u64, width: usize) -> u64 {
-    match draw(seed, 16) {
+fn drawn_address(random: &mut Random, width: usize) -> u64 {
+    match random.draw(16) {
         0 => 4294967295,
         1 => 4294967296,
-        2 => number(seed, 8),
-        _ => number(seed, width),
-    }
-}
-
-fn drawn_number(seed: &mut u64, width: usize, address: bool) -> u64 {
-    if address {
-        drawn_address(seed, width)
-    } else {
-        number(seed, width)
+        2 => random.number(8),
+        _ => random.number(width),
     }
 }
 
@@ -62,29 +54,36 @@ fn section(t: u64) -> usize
 }
 
 // Short slices, some around 254 bytes, and a few around 65,530.
-fn drawn_length(seed: &mut u64) -> usize {
-    match draw(seed, 64) {
-        0..=3 => 250 + draw(seed, 11) as usize,
-        4 => 65520 + draw(seed, 24) as usize,
-        _ => draw(seed, 41) as usize,
+fn drawn_length(random: &mut Random) -> usize
+    ensures { result ≤ 65543 }
+{
+    match random.draw(64) {
+        0..=3 => 250 + random.draw(11) as usize,
+        4 => 65520 + random.draw(24) as usize,
+        _ => random.draw(41) as usize,
     }
 }
 
 // A call of a list in a form.
-pub(crate) fn next_call(form: u64, seed: &mut u64) -> Call {
-    let t = drawn_type(seed);
+pub(crate) fn next_call<'a>(form: u64, pool: &'a Pool, random: &mut Random) -> Call<'a> {
+    let t = drawn_type(random);
     let shape = shape_of(form, t);
-    let a = first(t, drawn_number(seed, shape.a, addresses(t) > 0));
-    let b = drawn_number(seed, shape.b, addresses(t) > 1);
-    let c = number(seed, shape.c);
-    let start = section(t) + draw(seed, 400) as usize;
-    let len = drawn_length(seed);
+    let (a, b) = match addresses(t) {
+        0 => (random.number(shape.a), random.number(shape.b)),
+        1 => (drawn_address(random, shape.a), random.number(shape.b)),
+        _ => (
+            drawn_address(random, shape.a),
+            drawn_address(random, shape.b),
+        ),
+    };
+    let c = random.number(shape.c);
+    let start = section(t) + random.draw(400) as usize;
+    let len = drawn_length(random);
     Call {
         t,
-        a,
+        a: first(t, a),
         b,
         c,
-        start,
-        len,
+        slice: &pool[start..start + len],
     }
 }

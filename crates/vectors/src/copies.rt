@@ -14,17 +14,10 @@ fn line(stdout: Stdout, s: &[u8])
     print::text(stdout, b"\n");
 }
 
-// Every prefix of s.
-fn lines(stdout: Stdout, s: &[u8])
-    requires { length s.now ≤ 34 }
-{
-    let mut n = 0;
-    while n <= s.len() {
-        line(stdout, &s[..n]);
-        n = n + 1;
-    }
-}
-
+// Every prefix of the letters and eight digits.
 pub(crate) fn list(stdout: Stdout) {
-    lines(stdout, b"ABCDEFGHIJKLMNOPQRSTUVWXYZ01234567");
+    let s = b"ABCDEFGHIJKLMNOPQRSTUVWXYZ01234567";
+    for n in 0..=34 {
+        line(stdout, &s[..n]);
+    }
 }

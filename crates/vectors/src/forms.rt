@@ -1,11 +1,8 @@
-// The four address forms of document 02's M-100, by their numbers in include/trace.h.
+// The four address forms of document 02's M-100, by their numbers in include/trace.h: lines print these, and the
+// rules know nothing of the codec.
 use records::address::AddressForm;
 
+// Any other number is taken as 3, and none is asked for.
 pub(crate) fn form_of(form: u64) -> AddressForm {
-    match form {
-        0 => AddressForm::Le64,
-        1 => AddressForm::Be64,
-        2 => AddressForm::Le32,
-        _ => AddressForm::Be32,
-    }
+    trace_c::form::form_of(form).unwrap_or(AddressForm::Be32)
 }

@@ -1,178 +1,134 @@
-// All strings of no, one, two and three bytes: what the functions of frames that take the list of first
-// bytes lent answer, counted, and how many answers differ from the plain ones.
-ghost use Rattle.std.specs.Prelude.{◌≡◌, ◌+◌, ◌^◌, ◌<◌, ◌≤◌};
-ghost use Rattle.frames.specs.Frames.{entries};
-
-use crate::plain_frames::{Answer, FOUND, LATER, NONE, Reading, plain, says};
-use crate::slices::string;
-use console::print;
-use frames::head::heads;
-use frames::read::{
-    Content, Frame, Start, one_record_in, previous_record_in, previous_start, value_in,
-};
+// All strings of no, one, two and three bytes: what the functions of frames answer, counted, and how many
+// answers differ from the plain ones.
+use crate::all_strings::AllStrings;
+use crate::plain_frames::{self, Answer};
+use frames::read::{Part, one_record, previous_record, previous_start, value};
+use frames::refusal::Refusal;
 use std::io::Stdout;
 
-fn of_frame(frame: Frame) -> Answer {
-    match frame {
-        Frame::Whole(n) => says(FOUND, n, 0),
-        Frame::Wants(n) => says(NONE, n, 0),
+fn refused(refusal: Refusal) -> Answer {
+    let number = usize::from(refusal.number());
+    match refusal {
+        Refusal::ShortSpan | Refusal::EndsDiffer => Answer::Later(number),
+        _ => Answer::Missing(number),
     }
 }
 
-fn refused(n: u8) -> Answer {
-    if n == 2 || n == 16 {
-        says(LATER, n as usize, 0)
-    } else {
-        says(NONE, n as usize, 0)
+// What each function of frames answers, here and below, in the plain reading's terms.
+fn of_record(record: Result<usize, usize>) -> Answer {
+    match record {
+        Ok(n) => Answer::Found(n, 0),
+        Err(n) => Answer::Missing(n),
     }
 }
 
-fn of_content(content: Content) -> Answer {
-    match content {
-        Content::Within(part) => says(FOUND, part.start, part.end),
-        Content::Refused(n) => refused(n),
+fn of_value(value: Result<Part, Refusal>) -> Answer {
+    match value {
+        Ok(part) => Answer::Found(part.start, part.end),
+        Err(refusal) => refused(refusal),
     }
 }
 
-fn of_start(start: Start) -> Answer {
+fn of_start(start: Result<usize, Refusal>) -> Answer {
     match start {
-        Start::At(position) => says(FOUND, position, 0),
-        Start::Refused(n) => refused(n),
+        Ok(position) => Answer::Found(position, 0),
+        Err(refusal) => refused(refusal),
     }
 }
 
-// What frames answers.
-fn read(reading: Reading, heads: &[u16; 256], s: &[u8]) -> Answer
-    requires { heads.now ≡ entries }
-{
-    match reading {
-        Reading::Record => of_frame(one_record_in(heads, s)),
-        Reading::Value => of_content(value_in(heads, s)),
-        Reading::Start => of_start(previous_start(s)),
-        Reading::Previous => of_start(previous_record_in(heads, s)),
-    }
-}
-
+// As in `tally`, counts are added without a bound.
 #[derive(Clone, Copy)]
 struct Tally {
-    found: usize,
-    none: usize,
-    later: usize,
-    differ: usize,
+    found: u64,
+    missing: u64,
+    later: u64,
+    differ: u64,
 }
 
-fn same(x: Answer, y: Answer) -> bool {
-    x.sort == y.sort && x.first == y.first && x.second == y.second
-}
-
-// One answer more of a sort.
-fn sorted(t: Tally, sort: u8) -> Tally
-    requires { (t.found < 2 ^ 32) × (t.none < 2 ^ 32) × (t.later < 2 ^ 32) }
-    ensures { (result.found ≤ t.found + 1) × (result.none ≤ t.none + 1) × (result.later ≤ t.later + 1) × (result.differ ≤ t.differ) }
-{
-    let mut r = t;
-    match sort {
-        FOUND => r.found = t.found + 1,
-        NONE => r.none = t.none + 1,
-        _ => r.later = t.later + 1,
+impl Tally {
+    fn new() -> Tally {
+        Tally {
+            found: 0,
+            missing: 0,
+            later: 0,
+            differ: 0,
+        }
     }
-    r
-}
 
-// One string more, of which frames says x and the plain reading y.
-fn counted(t: Tally, x: Answer, y: Answer) -> Tally
-    requires { (t.found < 2 ^ 32) × (t.none < 2 ^ 32) × (t.later < 2 ^ 32) × (t.differ < 2 ^ 32) }
-    ensures { (result.found ≤ t.found + 1) × (result.none ≤ t.none + 1) × (result.later ≤ t.later + 1) × (result.differ ≤ t.differ + 1) }
-{
-    let mut r = sorted(t, x.sort);
-    if !same(x, y) {
-        r.differ = t.differ + 1;
+    // One string more, and what frames and the plain reading say of it.
+    fn add(&mut self, said: Answer, plain: Answer) {
+        match said {
+            Answer::Found(..) => self.found = self.found.wrapping_add(1),
+            Answer::Missing(_) => self.missing = self.missing.wrapping_add(1),
+            Answer::Later(_) => self.later = self.later.wrapping_add(1),
+        }
+        if said != plain {
+            self.differ = self.differ.wrapping_add(1);
+        }
     }
-    r
 }
 
-// All strings of n bytes; their number is `strings`.
-fn count_all(reading: Reading, heads: &[u16; 256], n: usize, strings: usize) -> Tally
-    requires heads_value { heads.now ≡ entries }
-    requires n_bound { (n ≤ 3) × (strings ≤ 16777216) }
-{
-    let mut t = Tally {
-        found: 0,
-        none: 0,
-        later: 0,
-        differ: 0,
+// The four functions, each with its counts.
+#[derive(Clone, Copy)]
+struct Tallies {
+    record: Tally,
+    value: Tally,
+    start: Tally,
+    previous: Tally,
+}
+
+fn count_all(strings: AllStrings) -> Tallies {
+    let mut tallies = Tallies {
+        record: Tally::new(),
+        value: Tally::new(),
+        start: Tally::new(),
+        previous: Tally::new(),
     };
-    let mut i = 0;
-    while i < strings {
-        let s = string(i);
-        t = counted(
-            t,
-            read(reading, heads, &s[..n]),
-            plain(reading, n, s[0], s[1], s[2]),
-        );
-        i = i + 1;
+    for i in 0..strings.count {
+        let bytes = i.to_le_bytes();
+        let s = &bytes[..strings.len];
+        tallies
+            .record
+            .add(of_record(one_record(s)), plain_frames::record(s));
+        tallies
+            .value
+            .add(of_value(value(s)), plain_frames::value(s));
+        tallies
+            .start
+            .add(of_start(previous_start(s)), plain_frames::start(s));
+        tallies
+            .previous
+            .add(of_start(previous_record(s)), plain_frames::previous(s));
     }
-    t
+    tallies
 }
 
-fn records(stdout: Stdout, heads: &[u16; 256], n: usize, strings: usize)
-    requires heads_value { heads.now ≡ entries }
-    requires n_bound { (n ≤ 3) × (strings ≤ 16777216) }
-{
-    let t = count_all(Reading::Record, heads, n, strings);
-    print::count(stdout, t.found as u64, b" whole, ");
-    print::count(stdout, t.none as u64, b" unfinished, ");
-    print::count(stdout, t.differ as u64, b" differ; ");
-}
-
-fn values(stdout: Stdout, heads: &[u16; 256], n: usize, strings: usize)
-    requires heads_value { heads.now ≡ entries }
-    requires n_bound { (n ≤ 3) × (strings ≤ 16777216) }
-{
-    let t = count_all(Reading::Value, heads, n, strings);
-    print::count(stdout, t.found as u64, b" contents, ");
-    print::count(stdout, t.none as u64, b" refused with 1, ");
-    print::count(stdout, t.later as u64, b" with 2, ");
-    print::count(stdout, t.differ as u64, b" differ; ");
-}
-
-fn starts(stdout: Stdout, heads: &[u16; 256], n: usize, strings: usize)
-    requires heads_value { heads.now ≡ entries }
-    requires n_bound { (n ≤ 3) × (strings ≤ 16777216) }
-{
-    let t = count_all(Reading::Start, heads, n, strings);
-    print::count(stdout, t.found as u64, b" starts, ");
-    print::count(stdout, t.none as u64, b" refused with 6, ");
-    print::count(stdout, t.differ as u64, b" differ; ");
-}
-
-fn found(stdout: Stdout, heads: &[u16; 256], n: usize, strings: usize)
-    requires heads_value { heads.now ≡ entries }
-    requires n_bound { (n ≤ 3) × (strings ≤ 16777216) }
-{
-    let t = count_all(Reading::Previous, heads, n, strings);
-    print::count(stdout, t.found as u64, b" found, ");
-    print::count(stdout, t.none as u64, b" refused with 6, ");
-    print::count(stdout, t.later as u64, b" with 16, ");
-    print::count(stdout, t.differ as u64, b" differ\n");
-}
-
-fn line(stdout: Stdout, heads: &[u16; 256], n: usize, strings: usize)
-    requires heads_value { heads.now ≡ entries }
-    requires n_bound { (n ≤ 3) × (strings ≤ 16777216) }
-{
-    print::count(stdout, n as u64, b" bytes, ");
-    print::count(stdout, strings as u64, b" strings: ");
-    records(stdout, heads, n, strings);
-    values(stdout, heads, n, strings);
-    starts(stdout, heads, n, strings);
-    found(stdout, heads, n, strings);
+// The numbers of the refusals stand in the text.
+fn line(stdout: Stdout, strings: AllStrings) {
+    let len = strings.len;
+    let count = strings.count;
+    let _ = print!(stdout; "{len} bytes, {count} strings: ");
+    let tallies = count_all(strings);
+    let t = tallies.record;
+    let _ = print!(stdout;
+        "{} whole, {} unfinished, {} differ; ",
+        t.found, t.missing, t.differ
+    );
+    let t = tallies.value;
+    let _ = print!(stdout; "{} contents, {} refused with 1, ", t.found, t.missing);
+    let _ = print!(stdout; "{} with 2, {} differ; ", t.later, t.differ);
+    let t = tallies.start;
+    let _ = print!(stdout;
+        "{} starts, {} refused with 6, {} differ; ",
+        t.found, t.missing, t.differ
+    );
+    let t = tallies.previous;
+    let _ = print!(stdout; "{} found, {} refused with 6, ", t.found, t.missing);
+    let _ = print!(stdout; "{} with 16, {} differ\n", t.later, t.differ);
 }
 
 pub(crate) fn list(stdout: Stdout) {
-    let heads = heads();
-    line(stdout, &heads, 0, 1);
-    line(stdout, &heads, 1, 256);
-    line(stdout, &heads, 2, 65536);
-    line(stdout, &heads, 3, 16777216);
+    for len in 0..=3 {
+        line(stdout, AllStrings::of(len));
+    }
 }

@@ -1,15 +1,12 @@
 // Parts of lines: numbers, and the bytes at both ends of a slice.
-use crate::slices::part;
 use console::print;
 use std::io::Stdout;
 
 // Numbers with a space before each, and what stands before and after them.
 pub(crate) fn numbers(stdout: Stdout, before: &[u8], n: &[u64], after: &[u8]) {
     print::text(stdout, before);
-    let mut i = 0;
-    while i < n.len() {
-        print::labelled(stdout, b" ", n[i]);
-        i = i + 1;
+    for &number in n {
+        print::labelled(stdout, b" ", number);
     }
     print::text(stdout, after);
 }
@@ -20,7 +17,7 @@ pub(crate) fn edges(stdout: Stdout, s: &[u8]) {
     if s.len() <= 44 {
         return print::bytes(stdout, s);
     }
-    print::bytes(stdout, part(s, 0, 3));
+    print::bytes(stdout, &s[..3]);
     print::text(stdout, b".. ");
-    print::bytes(stdout, part(s, s.len() - 5, 5));
+    print::bytes(stdout, &s[s.len() - 5..]);
 }

@@ -3,6 +3,7 @@
 // `stdout`, from documents 01 and 02, RFC 3629 and Python's own text, integers and bytes.
 #![tactic(auto)]
 
+mod all_strings;
 mod book;
 mod call_lists;
 mod calls;
@@ -27,6 +28,7 @@ mod widths;
 mod write;
 mod write_examples;
 
+use random::Random;
 use std::io::{Stdin, Stdout};
 
 fn numbers(stdin: Stdin, stdout: Stdout) {
@@ -41,14 +43,14 @@ fn frames(stdout: Stdout) {
     frames_written::list(stdout);
 }
 
-// The examples and the lists take their slices of one pool. One seed draws the pool and the lists.
+// The examples and the lists take their slices of one pool. One generator draws the pool and the lists.
 fn records(stdout: Stdout) {
     let mut pool = [0u8; 68048];
-    let mut seed = 1;
-    pool::fill(&mut pool, &mut seed);
+    let mut random = Random::new();
+    pool::fill(&mut pool, &mut random);
     write_examples::list(stdout, &pool);
     form_examples::list(stdout, &pool);
-    call_lists::run(stdout, &pool, &mut seed);
+    call_lists::run(stdout, &pool, random);
 }
 
 fn main(rt: HostRuntime) {

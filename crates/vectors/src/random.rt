@@ -2,28 +2,38 @@
 // taken.
 ghost use Rattle.std.specs.Prelude.{◌<◌};
 
-// A number below n, which is at most 65,536.
-pub(crate) fn draw(seed: &mut u64, n: u64) -> u64
-    requires { 0 < n }
-    ensures { result < n }
-{
-    *seed = (1664525 * (*seed % 4294967296) + 1013904223) % 4294967296;
-    *seed / 65536 % n
+#[derive(Drop)]
+pub(crate) struct Random {
+    state: u32,
 }
 
-pub(crate) fn byte(seed: &mut u64, n: u64) -> u8
-    requires { 0 < n }
-{
-    (draw(seed, n) % 256) as u8
-}
-
-// A number of `width` bytes, the most significant one drawn first.
-pub(crate) fn number(seed: &mut u64, width: usize) -> u64 {
-    let mut n = 0;
-    let mut i = 0;
-    while i < width {
-        n = n % 72057594037927936 * 256 + draw(seed, 256);
-        i = i + 1;
+impl Random {
+    pub(crate) fn new() -> Random {
+        Random { state: 1 }
     }
-    n
+
+    // A number below n, which is at most 65,536.
+    pub(crate) fn draw(&mut self, n: u64) -> u64
+        requires { 0 < n }
+        ensures { result < n }
+    {
+        self.state = self.state.wrapping_mul(1664525).wrapping_add(1013904223);
+        u64::from(self.state / 65536) % n
+    }
+
+    // A byte below n, which is at most 256.
+    pub(crate) fn byte(&mut self, n: u64) -> u8
+        requires { 0 < n }
+    {
+        (self.draw(n) % 256) as u8
+    }
+
+    // A number of `width` bytes, the most significant one drawn first.
+    pub(crate) fn number(&mut self, width: usize) -> u64 {
+        let mut n = 0;
+        for _ in 0..width {
+            n = n % 0x0100000000000000 * 256 + self.draw(256);
+        }
+        n
+    }
 }

@@ -4,6 +4,7 @@ use frames::read::Part;
 use records::position::{Position, Reading};
 use trace_c::fields::of_answer;
 
+// These stay numbers: a line prints them, and the rules know nothing of the codec's own types.
 pub(crate) const SHOWN: u64 = 0;
 
 pub(crate) const FINISHED: u64 = 3;
@@ -17,8 +18,8 @@ pub(crate) struct Shown {
     pub(crate) next: usize,
     pub(crate) sort: u64,
     pub(crate) number: u64,
-    pub(crate) from: u64,
-    pub(crate) to: u64,
+    pub(crate) from: usize,
+    pub(crate) to: usize,
     pub(crate) t: u64,
     pub(crate) a: u64,
     pub(crate) b: u64,
@@ -27,26 +28,25 @@ pub(crate) struct Shown {
 }
 
 fn shown_by(reading: Reading) -> Shown {
-    let position = reading.position;
-    let answer = reading.answer;
-    let n = of_answer(answer);
+    let [sort, number, from, to, t, a, b, c, start, end] = of_answer(reading.answer);
     Shown {
-        next: position.at,
-        sort: n[0],
-        number: n[1],
-        from: n[2],
-        to: n[3],
-        t: n[4],
-        a: n[5],
-        b: n[6],
-        c: n[7],
+        next: reading.position.at,
+        sort,
+        number,
+        from: from as usize,
+        to: to as usize,
+        t,
+        a,
+        b,
+        c,
         part: Part {
-            start: n[8] as usize,
-            end: n[9] as usize,
+            start: start as usize,
+            end: end as usize,
         },
     }
 }
 
+// Each direction is one line: a function that takes the call as a closure would add some and save none.
 pub(crate) fn next(form: u64, s: &[u8], at: usize) -> Shown {
     shown_by(Position::at(at, form_of(form)).read_next(s))
 }

@@ -15,21 +15,18 @@ fn line(stdout: Stdout, s: &[u8]) {
 }
 
 fn lines(stdout: Stdout, s: &[u8]) {
-    let mut at = 0;
-    while at < s.len() {
-        let from = at + 1;
-        let n = s[at] as usize;
-        if s.len() - from < n {
-            print::text(stdout, b"cut short\n");
-            return;
-        }
-        let to = from + n;
-        line(stdout, &s[from..to]);
-        at = to;
+    let mut rest = s;
+    while let Some((n, from)) = rest.split_first() {
+        let Some((string, after)) = from.split_at_checked(usize::from(*n)) else {
+            return print::text(stdout, b"cut short\n");
+        };
+        line(stdout, string);
+        rest = after;
     }
 }
 
 pub(crate) fn list_input(stdin: Stdin, stdout: Stdout) {
+    // No function allocates, so the room is fixed, and n says how much of it was read.
     let mut space = [0u8; 4096];
     let n = read_full(stdin, &mut space);
     lines(stdout, &space[..n]);

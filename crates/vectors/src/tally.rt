@@ -1,105 +1,115 @@
 // How many comparisons were made of each kind, and how many differ; and other counts.
-ghost use Rattle.std.specs.Prelude.{◌≤◌, length};
-
 use crate::lines::numbers;
-use crate::slices::get;
 use console::print;
 use std::io::Stdout;
-use std::num::{wrapping_add_u64, wrapping_add_usize};
 
-// The kinds of comparison: at each place the number made, and at the next how many differ.
-pub(crate) const VERDICTS: usize = 0;
+// Comparisons of one kind. Counts are added without a bound: none comes near 2^64.
+#[derive(Clone, Copy)]
+pub(crate) struct Compared {
+    made: u64,
+    differ: u64,
+}
 
-pub(crate) const POSITIONS: usize = 2;
+impl Compared {
+    fn new() -> Compared {
+        Compared { made: 0, differ: 0 }
+    }
 
-pub(crate) const BEYOND: usize = 4;
+    pub(crate) fn add(&mut self, same: bool) {
+        self.made = self.made.wrapping_add(1);
+        self.differ = self.differ.wrapping_add(u64::from(!same));
+    }
 
-pub(crate) const NEXT: usize = 6;
-
-const NEXT_ENDS: usize = 8;
-
-pub(crate) const PREVIOUS: usize = 10;
-
-pub(crate) const PREVIOUS_ENDS: usize = 12;
-
-pub(crate) const CUTS: usize = 14;
-
-const CUT_ENDS: usize = 16;
-
-// Cuts that leave a part of a frame, and the sum of the numbers wanted there.
-const UNFINISHED: usize = 18;
-
-const WANTED: usize = 19;
-
-// Calls that the codec accepted; at the next places those refused with 8, with 9, and so on to 14.
-const ACCEPTED: usize = 20;
-
-fn add(tally: &mut [u64], i: usize, n: u64) {
-    if i < tally.len() {
-        tally[i] = wrapping_add_u64(tally[i], n);
+    fn line(self, stdout: Stdout, kind: &[u8]) {
+        numbers(stdout, kind, &[self.made, self.differ], b"\n");
     }
 }
 
-pub(crate) fn compared(tally: &mut [u64], kind: usize, same: bool) {
-    add(tally, kind, 1);
-    if !same {
-        add(tally, wrapping_add_usize(kind, 1), 1);
+// Readings: the records, and what is answered after the last of them. Where that is a number wanted, a part of
+// a frame is left: how often, and the sum of the numbers.
+#[derive(Clone, Copy)]
+pub(crate) struct Readings {
+    pub(crate) records: Compared,
+    pub(crate) ends: Compared,
+    unfinished: u64,
+    wanted: u64,
+}
+
+impl Readings {
+    fn new() -> Readings {
+        Readings {
+            records: Compared::new(),
+            ends: Compared::new(),
+            unfinished: 0,
+            wanted: 0,
+        }
+    }
+
+    pub(crate) fn want(&mut self, number: u64) {
+        self.unfinished = self.unfinished.wrapping_add(1);
+        self.wanted = self.wanted.wrapping_add(number);
     }
 }
 
-pub(crate) fn called(tally: &mut [u64], number: u64) {
-    if number == 0 {
-        add(tally, ACCEPTED, 1);
-    } else {
-        add(tally, wrapping_add_usize(ACCEPTED - 7, number as usize), 1);
+#[derive(Drop)]
+pub(crate) struct Tally {
+    // Calls that the codec accepted, refused with 8, with 9, and so on to 14.
+    calls: [u64; 8],
+    pub(crate) verdicts: Compared,
+    pub(crate) positions: Compared,
+    pub(crate) beyond: Compared,
+    pub(crate) next: Readings,
+    pub(crate) previous: Readings,
+    pub(crate) cuts: Readings,
+}
+
+impl Tally {
+    pub(crate) fn new() -> Tally {
+        Tally {
+            calls: [0; 8],
+            verdicts: Compared::new(),
+            positions: Compared::new(),
+            beyond: Compared::new(),
+            next: Readings::new(),
+            previous: Readings::new(),
+            cuts: Readings::new(),
+        }
     }
-}
 
-pub(crate) fn wanted(tally: &mut [u64], number: u64) {
-    add(tally, UNFINISHED, 1);
-    add(tally, WANTED, number);
-}
+    pub(crate) fn called(&mut self, verdict: Result<(), u64>) {
+        let i = match verdict {
+            Ok(()) => 0,
+            Err(number) => number.saturating_sub(7) as usize,
+        };
+        if let Some(count) = self.calls.get_mut(i) {
+            *count = count.wrapping_add(1);
+        }
+    }
 
-fn line(stdout: Stdout, kind: &[u8], tally: &[u64], i: usize) {
-    let n = [get(tally, i), get(tally, wrapping_add_usize(i, 1))];
-    numbers(stdout, kind, &n, b"\n");
-}
-
-fn report_writing(stdout: Stdout, tally: &[u64]) {
-    line(stdout, b"verdicts:", tally, VERDICTS);
-    line(stdout, b"positions:", tally, POSITIONS);
-    line(stdout, b"bytes beyond the end:", tally, BEYOND);
-}
-
-fn report_reading(stdout: Stdout, tally: &[u64]) {
-    line(stdout, b"records, read on:", tally, NEXT);
-    line(stdout, b"ends, read on:", tally, NEXT_ENDS);
-    line(stdout, b"records, read back:", tally, PREVIOUS);
-    line(stdout, b"ends, read back:", tally, PREVIOUS_ENDS);
-}
-
-fn report_cuts(stdout: Stdout, tally: &[u64]) {
-    line(stdout, b"records, read on to a cut:", tally, CUTS);
-    line(stdout, b"ends, read on to a cut:", tally, CUT_ENDS);
-    line(
-        stdout,
-        b"cuts that leave a part of a frame, sum of the numbers wanted:",
-        tally,
-        UNFINISHED,
-    );
-}
-
-pub(crate) fn report(stdout: Stdout, tally: &[u64])
-    requires { 28 ≤ length tally.now }
-{
-    numbers(
-        stdout,
-        b"calls, accepted, refused with 8 to 14:",
-        &tally[20..28],
-        b"\n",
-    );
-    print::text(stdout, b"compared, and of these differ\n");
-    report_writing(stdout, tally);
-    report_reading(stdout, tally);
-    report_cuts(stdout, tally);
+    pub(crate) fn report(&self, stdout: Stdout) {
+        numbers(
+            stdout,
+            b"calls, accepted, refused with 8 to 14:",
+            &self.calls,
+            b"\n",
+        );
+        print::text(stdout, b"compared, and of these differ\n");
+        self.verdicts.line(stdout, b"verdicts:");
+        self.positions.line(stdout, b"positions:");
+        self.beyond.line(stdout, b"bytes beyond the end:");
+        self.next.records.line(stdout, b"records, read on:");
+        self.next.ends.line(stdout, b"ends, read on:");
+        self.previous.records.line(stdout, b"records, read back:");
+        self.previous.ends.line(stdout, b"ends, read back:");
+        self.cuts
+            .records
+            .line(stdout, b"records, read on to a cut:");
+        self.cuts.ends.line(stdout, b"ends, read on to a cut:");
+        numbers(
+            stdout,
+            b"cuts that leave a part of a frame, sum of the numbers wanted:",
+            &[self.cuts.unfinished, self.cuts.wanted],
+            b"\n",
+        );
+    }
 }

@@ -1,15 +1,10 @@
--- `numbers::copy::copy_ends4` meets its contract: the first and the last bytes are all of them, by the law of ends at width 4.
--- Assumes nothing.
-use native.Mathlib.Omega.{arith}
+-- `numbers::copy::copy_ends4` meets its contract, by the law of ends at width 4. Assumes nothing.
+use Rattle.std.proofs.Common.{arith}
 use Rattle.numbers.proofs.NumberLaws.{splice-ends}
 use Rattle.numbers.proofs.copy.copy_ends4.Goals as goal
 
 pub returns : goal.returns
 returns c =
-    let second = c in
-    let first = second in
-    let ends = first in
-    let known = ends in
-    let a = known.args in
-    rw (second.put4-2.ensures, first.put4.ensures, ends.get4-last4.ensures, ends.get4-first4.ensures)
-    (splice-ends a.out.now a.at a.s.now 4 (λ i. (known.shared_slice_known-1.given i).fits) (omega arith) (omega arith) (omega arith))
+    let a = c.args in
+    rw (c.put4-2.ensures, c.put4.ensures, c.get4-2.ensures, c.get4.ensures)
+    (splice-ends a.out.now a.at a.s.now 4 (λ i. (c.type_inv.s i).fits) (omega arith) (omega arith) (omega arith))

@@ -1,11 +1,13 @@
--- `numbers::le::get4` meets its contract: two halves make the number, by the law of halves at width 2.
+-- `numbers::le::get4` meets its contract: std's number of the bytes is ours.
 -- Assumes nothing.
-use mathlib.Core.Path.{sym}
+use mathlib.Core.Path.{ap}
 use native.Mathlib.Omega.{arith}
-use Rattle.numbers.proofs.NumberLaws.{le_value_halves}
+use Rattle.numbers.specs.Numbers.{le_value}
+use Rattle.numbers.proofs.NumberLaws.{part_read}
 use Rattle.numbers.proofs.le.get4.Goals as goal
 
 pub returns : goal.returns
+unfolding le_value
 returns c =
-    let a = c.args in
-    rw (c.get2-low.ensures, c.get2-high.ensures) (sym (le_value_halves a.s.now a.at 2 2 (omega arith)))
+    let read = ap le_value (part_read c.args.s.now c.args.at 3 (omega arith)) in
+    omega (arith, read, c.from_le_bytes.ensures)

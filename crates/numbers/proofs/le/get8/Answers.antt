@@ -1,11 +1,16 @@
--- `numbers::le::get8` meets its contract: two halves make the number, by the law of halves at width 4.
--- Assumes nothing.
-use mathlib.Core.Path.{sym}
-use native.Mathlib.Omega.{arith}
-use Rattle.numbers.proofs.NumberLaws.{le_value_halves}
+-- `numbers::le::get8` meets its contract: std's number of the bytes is ours. Assumes nothing.
+use Rattle.std.proofs.Common.{◌≡◌, ◌+◌, ◌-◌, ap, arith}
+use Rattle.numbers.specs.Lists.{part}
+use Rattle.numbers.specs.Numbers.{le_value}
+use Rattle.numbers.proofs.ListLaws.{length_part}
+use Rattle.numbers.proofs.NumberLaws.{all_read}
 use Rattle.numbers.proofs.le.get8.Goals as goal
 
 pub returns : goal.returns
+unfolding le_value
 returns c =
-    let a = c.args in
-    rw (c.get4-low.ensures, c.get4-high.ensures) (sym (le_value_halves a.s.now a.at 4 4 (omega arith)))
+    let s = c.args.s.now in
+    let at = c.args.at in
+    let n : at + 8 - at ≡ 8 = omega arith in
+    let read = ap le_value (all_read (part s at 8) 7 (length_part s at 8 (omega arith))) in
+    omega (arith, read, rw n at c.from_le_bytes.ensures)

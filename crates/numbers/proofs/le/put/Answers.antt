@@ -25,9 +25,3 @@ returns-in-4 c =
     let arm = call in
     let a = arm.args in
     rw arm.in-4.is (call.put4.ensures ∙ ap (splice a.out.now a.at) (le_bytes-mod 4 a.value))
-
-pub returns-in-8 : goal.returns-in-8
-returns-in-8 c =
-    let call = c in
-    let arm = call in
-    rw arm.in-8.is call.put8.ensures

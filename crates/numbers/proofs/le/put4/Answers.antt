@@ -1,12 +1,15 @@
--- `numbers::le::put4` meets its contract: two halves make the number, by the law of halves at width 2.
+-- `numbers::le::put4` meets its contract: std's bytes of the number are ours.
 -- Assumes nothing.
-use native.Mathlib.Omega.{arith}
-use Rattle.numbers.proofs.NumberLaws.{splice_halves}
+use Rattle.std.proofs.Common.{◌≡◌, ◌+◌, ◌-◌, ap, ◌∙◌, arith}
+use borrow.Rule.Slice.PartMut.{put_mid}
+use Rattle.numbers.specs.Numbers.Order.{least_first}
+use Rattle.numbers.proofs.NumberLaws.{bytes_are, length-bytes_in}
+use Rattle.numbers.proofs.SpliceLaws.{mid_is_splice}
 use Rattle.numbers.proofs.le.put4.Goals as goal
 
 pub returns : goal.returns
 returns c =
-    let second = c in
-    let first = second in
-    let a = first.args in
-    rw (second.put2-2.ensures, first.put2.ensures) (splice_halves a.out.now a.at 2 2 a.value (omega arith))
+    let a = c.args in
+    let n : a.at + 4 - a.at ≡ 4 = omega arith in
+    rw (n, c.copy_from_slice.ensures.after, c.to_le_bytes.ensures)
+    (ap (put_mid a.at 4 a.out.now) (bytes_are 4 a.value) ∙ mid_is_splice a.out.now a.at 4 _ (length-bytes_in least_first 4 a.value))

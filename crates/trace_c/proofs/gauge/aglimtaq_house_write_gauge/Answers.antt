@@ -14,16 +14,16 @@ pub slice_bounds-aglimtaq_house_write-end : goal.slice_bounds-aglimtaq_house_wri
 slice_bounds-aglimtaq_house_write-end c =
     c.put_gauge-n.ensures.value ∙ ap length (sym (gauge_taken _ _ _ _ refl c.put_gauge-n.ensures.value c.put_gauge-n.ensures.out_after))
 
-pub returns-in-Gauge : goal.returns-in-Gauge
+pub returns-in-Some : goal.returns-in-Some
 unfolding gauge_from gauge_number gauge_left gauge_out
-returns-in-Gauge c =
-    let is = sym c.gauge_given.ensures ∙ c.in-Gauge.is in
+returns-in-Some c =
+    let is = sym c.gauge_given.ensures ∙ c.in-Some.is in
     let bytes = gauge_taken _ _ _ _ refl c.put_gauge-n.ensures.value c.put_gauge-n.ensures.out_after in
     let w = c.aglimtaq_house_write.ensures in
     record { value = rw (is, sym bytes) w.value; position_after = rw (is, sym bytes) w.position_after; out_after = rw (is, sym bytes) w.out_after }
 
-pub returns-in-Nothing : goal.returns-in-Nothing
+pub returns-in-None : goal.returns-in-None
 unfolding gauge_from gauge_number gauge_left gauge_out
-returns-in-Nothing c =
-    let is = sym c.gauge_given.ensures ∙ c.in-Nothing.is in
+returns-in-None c =
+    let is = sym c.gauge_given.ensures ∙ c.in-None.is in
     record { value = rw is c.no_gauge.ensures; position_after = rw is; out_after = rw is }

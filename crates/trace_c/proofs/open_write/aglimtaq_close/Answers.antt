@@ -6,19 +6,19 @@ use Rattle.records.specs.Openings.{closed, bytes_closed}
 use Rattle.trace_c.proofs.OpeningLaws.{called_told, bytes_told, none_told, none-bytes}
 use Rattle.trace_c.proofs.open_write.aglimtaq_close.Goals as goal
 
-pub returns-in-Form : goal.returns-in-Form
-returns-in-Form c =
+pub returns : goal.returns
+returns c =
     let a = c.args in
-    let form = sym c.form_of.ensures ∙ c.in-Form.is in
+    let form = sym c.form_of.ensures ∙ c.in-Some.is in
     let place = c.place_of.ensures in
     let said = c.close-written.ensures in
     let put = c.put_place.ensures in
     let is = called_told a.position.now _ form place (closed (length a.out.now)) said.value (put.value, put.position_after) in
     record { value = is.0; position_after = is.1; out_after = bytes_told a.position.now _ form place (bytes_closed a.out.now) a.out.now said.out_after }
 
-pub returns-in-Nothing : goal.returns-in-Nothing
-returns-in-Nothing c =
+pub returns-in_default : goal.returns-in_default
+returns-in_default c =
     let a = c.args in
-    let form = sym c.form_of.ensures ∙ c.in-Nothing.is in
+    let form = sym c.form_of.ensures ∙ c.in_default.is in
     let is = none_told a.position.now form (closed (length a.out.now)) in
     record { value = is.0; position_after = is.1; out_after = none-bytes a.position.now form (bytes_closed a.out.now) a.out.now }

@@ -3,27 +3,27 @@
 use mathlib.Core.Path.{sym, ap, ◌∙◌}
 use Rattle.records.specs.declared.position.Position.{Position}
 use Rattle.records.specs.declared.position.Reading.{Reading}
-use Rattle.records.specs.Positions.{pending_of, visible, read_next}
+use Rattle.records.specs.Positions.{visible, read_next}
 use Rattle.trace_c.specs.Forms.{moved_to}
 use Rattle.trace_c.specs.Fields.{flat_answer}
 use Rattle.trace_c.specs.Reading.{place_by, reading_by}
 use Rattle.trace_c.proofs.read.aglimtaq_read_next.Goals as goal
 
-pub returns-in-Form : goal.returns-in-Form
+pub returns : goal.returns
 unfolding place_by reading_by
-returns-in-Form c =
+returns c =
     let a = c.args in
-    let is = sym c.form_of.ensures ∙ c.in-Form.is in
-    let said = c.read_next-next.ensures ∙ ap (λ (q : Position). read_next (visible a.bytes.now (pending_of q)) q) c.place_of.ensures in
+    let is = sym c.form_of.ensures ∙ c.in-Some.is in
+    let said = c.read_next-next.ensures ∙ ap (λ (q : Position). read_next (visible a.bytes.now q.pending) q) c.place_of.ensures in
     record {
       position_after = rw is (ap (λ (r : Reading). moved_to a.position.now r.position.at) said);
       reading_after = rw is (c.of_answer.ensures ∙ ap (λ (r : Reading). flat_answer r.answer) said);
     }
 
-pub returns-in-Nothing : goal.returns-in-Nothing
+pub returns-in_default : goal.returns-in_default
 unfolding place_by reading_by
-returns-in-Nothing c =
-    let is = sym c.form_of.ensures ∙ c.in-Nothing.is in
+returns-in_default c =
+    let is = sym c.form_of.ensures ∙ c.in_default.is in
     record {
       position_after = rw is;
       reading_after = rw is;

@@ -5,4 +5,4 @@ use Rattle.tracelist.proofs.line.record_line.Goals as goal
 
 pub returns : goal.returns
 unfolding record_line
-returns c = rw c.kind_in.ensures
+returns c = rw c.kind.ensures

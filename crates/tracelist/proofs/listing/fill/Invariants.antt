@@ -1,19 +1,19 @@
--- `tracelist::listing::fill` meets its contract. The loop's invariant: what the buffer holds and what is listed after it are what is
--- listed from the first offset on; where it holds something, less is left to list.
+-- `tracelist::listing::fill`: the text and what is listed after it are what is listed from the first offset on, and less is left to list.
 -- Assumes nothing.
+use Rattle.std.specs.Prelude.{Some}
 use mathlib.Core.Path.{◌≡◌}
-use mathlib.Core.Bool.{true}
 use mathlib.Core.List.{◌++◌}
-use Prim.Native.Nat.{◌≤◌, ◌<◌}
-use lib.ListN.{length, take}
-use Rattle.tracelist.specs.Inner.{listed_from, rest, left}
+use Prim.Native.Nat.{◌<◌}
+use Rattle.tracelist.specs.Inner.{listed_from, rest, left, Within}
 use Rattle.tracelist.proofs.listing.fill.Given as goal
 
-abbrev pub invariant-loop-more : goal.invariant-loop-more
-invariant-loop-more l =
-    (take l.held l.out ++ rest l.s l.at l.more ≡ listed_from l.s l.from)
-    × (length l.out ≡ length l.initial.out) × (l.held ≤ length l.out) × (l.at ≤ length l.s)
-    × (left l.s l.at l.more ≤ left l.s l.from true) × (0 < l.held → left l.s l.at l.more < left l.s l.from true)
+abbrev pub invariant-loop-next : goal.invariant-loop-next
+invariant-loop-next l =
+    record {
+      goes_on : l.text ++ rest l.s l.next ≡ listed_from l.s l.from;
+      within : Within l.s l.next;
+      less : left l.s l.next < left l.s (Some l.from);
+    }
 
-abbrev pub decreases-loop-more : goal.decreases-loop-more
-decreases-loop-more l = left l.s l.at l.more
+abbrev pub decreases-loop-next : goal.decreases-loop-next
+decreases-loop-next l = left l.s l.next

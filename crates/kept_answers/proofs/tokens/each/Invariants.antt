@@ -1,9 +1,0 @@
--- `kept_answers::tokens::each` ends: what is left falls.
--- Assumes nothing.
-use Rattle.kept_answers.proofs.tokens.each.Given as goal
-
-abbrev pub invariant-loop-left : goal.invariant-loop-left
-invariant-loop-left l = Unit {0}
-
-abbrev pub decreases-loop-left : goal.decreases-loop-left
-decreases-loop-left l = l.left
