@@ -27,7 +27,8 @@ use Rattle.records.specs.declared.record.Record.TheVariants as kind
 use Rattle.records.specs.Contents.{layout}
 use Rattle.records.specs.Reading.{lent_part}
 use Rattle.records.specs.Views.{bytes_of, shown_file_meta, shown_meta, shown_as}
-use Rattle.records.specs.Positions.{here, visible, read_next, read_previous}
+use Rattle.records.specs.declared.position.Open.{Open}
+use Rattle.records.specs.Positions.{here, by_open, unless_open, visible, read_next, read_previous}
 use Rattle.house.specs.declared.read.HouseAnswer.{HouseAnswer}
 use Rattle.house.specs.declared.read.HouseReading.{HouseReading}
 use Rattle.house.specs.Gauges.{gauge_of}
@@ -159,6 +160,14 @@ placed_at p f = by (eqb (get_or p 2 0) 0)
     by : (b : Bool) → at_of p ≡ (cond b (here f (at_of p)) (record { at = at_of p; form = f; pending = Some (record { start = get_or p 3 0; stated = get_or p 4 0; filled = get_or p 5 0 }) })).at
     by true = refl
     by false = refl
+
+-- the number of a refused call is that of what a write call says
+pub refused_number : (o : Option Open) (b : Bool) (r : Refusal)
+    → by_open o (cond b 8 (number_of r)) (λ q. 18) ≡ verdict_number (unless_open o (cond b (Err Refusal.BeyondEnd) (Err r)))
+unfolding verdict_number
+refused_number None true r = refl
+refused_number None false r = refl
+refused_number (Some q) b r = refl
 
 module _ (lent : ℕ) (d p bs : List ℕ) where
   pub plain_told : (g : Gauge) → gauge_of bs ≡ Ok g → (form : Option AddressForm)

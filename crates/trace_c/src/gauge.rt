@@ -13,7 +13,7 @@ use crate::form::{NOT_A_FORM, form_of};
 use crate::place::place_of;
 use crate::read::{aglimtaq_read_next, aglimtaq_read_previous};
 use crate::types::{DISTANCE_LEFT, FUEL, RESERVE_LAMP, UNKNOWN_META};
-use crate::write::{NO_RECORD, aglimtaq_write, number_of};
+use crate::write::{NO_RECORD, aglimtaq_write};
 use frames::read::Part;
 use frames::refusal::Refusal;
 use house::gauge::{Gauge, gauge_of, put_gauge};
@@ -91,8 +91,8 @@ fn refusal_by(numbers: [u64; 6], lent: usize, refusal: Refusal) -> u64
 {
     match form_of(numbers[1]) {
         Some(form) => {
-            let written = refused(place_of(numbers, form), lent, refusal);
-            number_of(written.verdict)
+            let call = refused(place_of(numbers, form), lent, refusal.number());
+            call.number as u64
         }
         None => NOT_A_FORM,
     }
