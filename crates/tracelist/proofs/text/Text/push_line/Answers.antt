@@ -1,21 +1,19 @@
--- `tracelist::text::Text::push_line` meets its contract: the fields of the line, one after the other.
+-- `tracelist::text::Text::push_line` meets its contract: the line stands after the text.
 -- Assumes nothing.
-use Rattle.tracelist.proofs.TextLaws.{record_text, end_text, unfinished_text}
+use mathlib.Core.Path.{ap, ap₂, ◌∙◌}
+use mathlib.Core.List.{List, ◌++◌}
+use Prim.Native.Nat.{ℕ}
+use native.Mathlib.Omega.{arith}
+use lib.ListN.{take}
+use Rattle.numbers.proofs.SpliceLaws.{take-splice-end}
+use Rattle.tracelist.specs.Listing.{line_text}
 use Rattle.tracelist.proofs.text.Text.push_line.Goals as goal
 
-pub returns-in-Record-clause-text : goal.returns-in-Record-clause-text
-returns-in-Record-clause-text c =
-    let l = c.in-Record in
-    rw (c.push_number-in-Record-2.ensures.text, c.push_kind.ensures.text, c.push_number-in-Record.ensures.text, c.push_number.ensures.text, l.is)
-    (record_text c.args.self.now l.start l.length l.kind c.number-number.result l.refusal c.number-number.ensures)
-
-pub returns-in-End-clause-text : goal.returns-in-End-clause-text
-returns-in-End-clause-text c =
-    let l = c.in-End in
-    rw (c.push_number-in-End.ensures.text, c.push.ensures, l.is) (end_text c.args.self.now l.end)
-
-pub returns-in-Unfinished-clause-text : goal.returns-in-Unfinished-clause-text
-returns-in-Unfinished-clause-text c =
-    let l = c.in-Unfinished in
-    rw (c.push_number-in-Unfinished-2.ensures.text, c.push_number-in-Unfinished.ensures.text, c.push-in-Unfinished.ensures, l.is)
-    (unfinished_text c.args.self.now l.start l.wanted)
+pub returns-clause-text : goal.returns-clause-text
+returns-clause-text c =
+    let t = c.self.inside in
+    let p = c.put_line-self-inside.ensures in
+    let line : List ℕ = line_text c.args.line in
+    ap₂ take p.value.0 p.out_after
+    ∙ take-splice-end t.bytes t.len line (omega arith)
+    ∙ ap (λ (x : List ℕ). x ++ line) c.self.view_is
